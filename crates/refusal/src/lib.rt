@@ -5,7 +5,6 @@
 ghost use mathlib.Core.Path.{_≡_};
 ghost use Rattle.refusal.specs.Numbers.{numberOf, reasonOf};
 ghost use Rattle.std.specs.declared.option.Option.the-variants.{Some};
-
 use std::fmt;
 
 /// Why a call declined.
