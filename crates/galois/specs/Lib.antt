@@ -1,0 +1,4 @@
+pub mod Model
+pub mod House
+pub mod Consequences
+pub mod Ring
