@@ -35,15 +35,16 @@ Additive m f = (x y : ℕ) → x < 2 ^ m → y < 2 ^ m → f (bitXor x y) ≡ bi
 
 -- two such maps that agree on the single bits agree
 agree : (m : ℕ) (f g : ℕ → ℕ) → Additive m f → Additive m g → ((i : ℕ) → i < m → f (2 ^ i) ≡ g (2 ^ i))
-  → (k : ℕ) → k ≤ m → (x : ℕ) → x < 2 ^ k → f x ≡ g x
+    → (k : ℕ) → k ≤ m → (x : ℕ) → x < 2 ^ k → f x ≡ g x
 agree m f g hf hg same zero hk x h =
     let z : x ≡ 0 = omega arith in
     ap f z ∙ hf 0 0 (pow-pos m) (pow-pos m) ∙ xor-self (f 0)
     ∙ sym (ap g z ∙ hg 0 0 (pow-pos m) (pow-pos m) ∙ xor-self (g 0))
 agree m f g hf hg same (suc k) hk x h = elim (cases-order x (2 ^ k)) [
-      inl e ↦ split (agree m f g hf hg same k (omega arith)) (omega arith)
-    | inr (inl lt) ↦ agree m f g hf hg same k (omega arith) x lt
-    | inr (inr gt) ↦ split (agree m f g hf hg same k (omega arith)) (omega arith) ]
+  | inl e ↦ split (agree m f g hf hg same k (omega arith)) (omega arith)
+  | inr (inl lt) ↦ agree m f g hf hg same k (omega arith) x lt
+  | inr (inr gt) ↦ split (agree m f g hf hg same k (omega arith)) (omega arith)
+]
   where
     split : ((y : ℕ) → y < 2 ^ k → f y ≡ g y) → 2 ^ k ≤ x → f x ≡ g x
     split below le =
@@ -52,8 +53,8 @@ agree m f g hf hg same (suc k) hk x h = elim (cases-order x (2 ^ k)) [
         let up : 2 ^ k < 2 ^ m = pow-lt (let lt : k < m = omega arith in lt) in
         let whole : 2 ^ k + (x - 2 ^ k) ≡ x = omega arith in
         let parts : bitXor (2 ^ k) (x - 2 ^ k) ≡ x =
-            ap (λ z. bitXor z (x - 2 ^ k)) (sym (one-mul (2 ^ k))) ∙ xor-shifted 1 k (x - 2 ^ k) low
-            ∙ ap (λ z. z + (x - 2 ^ k)) (one-mul (2 ^ k)) ∙ whole in
+        ap (λ z. bitXor z (x - 2 ^ k)) (sym (one-mul (2 ^ k))) ∙ xor-shifted 1 k (x - 2 ^ k) low
+        ∙ ap (λ z. z + (x - 2 ^ k)) (one-mul (2 ^ k)) ∙ whole in
         let rest = x - 2 ^ k in
         ap f (sym parts) ∙ hf (2 ^ k) rest up (omega arith)
         ∙ ap₂ bitXor (same k (omega arith)) (below rest low)
@@ -72,8 +73,9 @@ module _ (F : FieldModel) (l : FieldLaws F) (p : PolynomialField F) where
   -- up to x ^ m the powers are settled
   first : (i : ℕ) → i < F .m → power F (suc i) ≡ power H (suc i)
   first i h = elim (cases-eq (suc i) (F .m)) [
-      inl e ↦ ap (power F) e ∙ p .root ∙ sym (ap (power H) e ∙ root (F .m) fit)
-    | inr ne ↦ let lt : suc i < F .m = omega arith in p .bits (suc i) lt ∙ sym (bits (F .m) fit (suc i) lt) ]
+    | inl e ↦ ap (power F) e ∙ p .root ∙ sym (ap (power H) e ∙ root (F .m) fit)
+    | inr ne ↦ let lt : suc i < F .m = omega arith in p .bits (suc i) lt ∙ sym (bits (F .m) fit (suc i) lt)
+  ]
 
   additive : Additive (F .m) (F .mul (F .alpha))
   additive x y hx hy =
@@ -85,8 +87,8 @@ module _ (F : FieldModel) (l : FieldLaws F) (p : PolynomialField F) where
   unfolding power
   times-alpha x h =
       agree (F .m) (F .mul (F .alpha)) (H .mul 2) additive (λ a b _ _. product-xor (F .m) (F .m) 2 a b)
-        (λ i hi. ap (F .mul (F .alpha)) (sym (p .bits i hi)) ∙ first i hi ∙ ap (H .mul 2) (bits (F .m) fit i hi))
-        (F .m) (omega arith) x h
+      (λ i hi. ap (F .mul (F .alpha)) (sym (p .bits i hi)) ∙ first i hi ∙ ap (H .mul 2) (bits (F .m) fit i hi))
+      (F .m) (omega arith) x h
 
   powers : (q : ℕ) → power F q ≡ power H q
   unfolding power
@@ -96,10 +98,12 @@ module _ (F : FieldModel) (l : FieldLaws F) (p : PolynomialField F) where
   -- what is not zero is a power, and powers multiply alike
   products : (a b : ℕ) → a < size F → b < size F → F .mul a b ≡ H .mul a b
   products a b ha hb = elim (cases-eq a 0) [
-      inl z ↦ ap (λ x. F .mul x b) z ∙ zero-mul F l b hb ∙ sym (ap (λ x. H .mul x b) z ∙ zero-mul H laws b hb)
+    | inl z ↦ ap (λ x. F .mul x b) z ∙ zero-mul F l b hb ∙ sym (ap (λ x. H .mul x b) z ∙ zero-mul H laws b hb)
     | inr na ↦ elim (cases-eq b 0) [
-      inl z ↦ ap (F .mul a) z ∙ mul-zero F l a ha ∙ sym (ap (H .mul a) z ∙ mul-zero H laws a ha)
-    | inr nb ↦ of-powers (l .powers .some a (omega arith) ha) (l .powers .some b (omega arith) hb) ] ]
+      | inl z ↦ ap (F .mul a) z ∙ mul-zero F l a ha ∙ sym (ap (H .mul a) z ∙ mul-zero H laws a ha)
+      | inr nb ↦ of-powers (l .powers .some a (omega arith) ha) (l .powers .some b (omega arith) hb)
+    ]
+  ]
     where
       of-powers : (i : ℕ) × (i < units F) × (power F i ≡ a) → (j : ℕ) × (j < units F) × (power F j ≡ b) → F .mul a b ≡ H .mul a b
       of-powers s t =

@@ -37,8 +37,8 @@ pub shift-xor : (m x y : ℕ) → shift m (bitXor x y) ≡ bitXor (shift m x) (s
 unfolding shift
 shift-xor m x y =
     ap₂ bitXor (ap (λ z. z % 2 ^ m) (double-xor x y) ∙ xor-mod (x * 2) (y * 2) m)
-      (ap (λ b. pick b (reducer m % 2 ^ m)) (bit-xor (m - 1) x y)
-      ∙ pick-bits (x / 2 ^ (m - 1) % 2) (y / 2 ^ (m - 1) % 2) (reducer m % 2 ^ m) (omega arith) (omega arith))
+    (ap (λ b. pick b (reducer m % 2 ^ m)) (bit-xor (m - 1) x y)
+    ∙ pick-bits (x / 2 ^ (m - 1) % 2) (y / 2 ^ (m - 1) % 2) (reducer m % 2 ^ m) (omega arith) (omega arith))
     ∙ swap ((x * 2) % 2 ^ m) ((y * 2) % 2 ^ m) (pick (x / 2 ^ (m - 1) % 2) (reducer m % 2 ^ m)) (pick (y / 2 ^ (m - 1) % 2) (reducer m % 2 ^ m))
 
 pub product-xor : (m k a x y : ℕ) → product m k a (bitXor x y) ≡ bitXor (product m k a x) (product m k a y)

@@ -73,7 +73,6 @@ away : ℕ → ℕ → ℕ → Bool
 away m zero y = true
 away m (suc k) y = let r = away m k (shift m y) in both (not (eqb y 1)) r
 
-
 record Tested (m : ℕ) : Type 0 where
   turned : run m (2 ^ m - 1) 1 ≡ 1
   all : T (reached m (2 ^ m - 1) (2 ^ m - 1))
@@ -110,6 +109,7 @@ seek-power m (suc k) p y x ey h =
   where
     r : ℕ
     r = seek m k (suc p) (shift m y) x
+
     go : (b : Bool) → eqb y x ≡ b → cond b p r < p + suc k → (r < suc p + k → run m r 1 ≡ x) → run m (cond b p r) 1 ≡ x
     go true e h′ ih = sym ey ∙ eqb-true y x e
     go false e h′ ih = ih (omega arith)
@@ -119,8 +119,9 @@ unfolding reached
 reached-at m n zero t x pos h = absurd (omega arith)
 reached-at m n (suc k) t x pos h =
     elim (cases-eq x (suc k)) [
-      inl e ↦ subst (λ z. seek m n 0 1 z < n) (sym e) (ltb→lt (seek m n 0 1 (suc k)) n (both-left (ltb (seek m n 0 1 (suc k)) n) (reached m n k) t))
-    | inr ne ↦ reached-at m n k (both-right (ltb (seek m n 0 1 (suc k)) n) (reached m n k) t) x pos (omega arith) ]
+      | inl e ↦ subst (λ z. seek m n 0 1 z < n) (sym e) (ltb→lt (seek m n 0 1 (suc k)) n (both-left (ltb (seek m n 0 1 (suc k)) n) (reached m n k) t))
+      | inr ne ↦ reached-at m n k (both-right (ltb (seek m n 0 1 (suc k)) n) (reached m n k) t) x pos (omega arith)
+    ]
 
 away-at : (m k p : ℕ) → T (away m k (run m p 1)) → (d : ℕ) → p ≤ d → d < p + k → run m d 1 ≡ 1 → ⊥
 unfolding away run
@@ -128,9 +129,10 @@ away-at m zero p t d lo hi e = omega arith
 away-at m (suc k) p t d lo hi e =
     let y = run m p 1 in
     elim (cases-eq d p) [
-      inl same ↦ T-not (eqb y 1) (both-left (not (eqb y 1)) (away m k (shift m y)) t)
-        (subst T (sym (eq-eqb y 1 (ap (λ z. run m z 1) (sym same) ∙ e))) tt)
-    | inr ne ↦ away-at m k (suc p) (both-right (not (eqb y 1)) (away m k (shift m y)) t) d (omega arith) (omega arith) e ]
+      | inl same ↦ T-not (eqb y 1) (both-left (not (eqb y 1)) (away m k (shift m y)) t)
+          (subst T (sym (eq-eqb y 1 (ap (λ z. run m z 1) (sym same) ∙ e))) tt)
+      | inr ne ↦ away-at m k (suc p) (both-right (not (eqb y 1)) (away m k (shift m y)) t) d (omega arith) (omega arith) e
+    ]
 
 clash : (m : ℕ) → Tested m → (p q : ℕ) → p < q → q < 2 ^ m - 1 → run m p 1 ≡ run m q 1 → ⊥
 unfolding run
@@ -139,8 +141,8 @@ clash m t p q lt hq e =
     let moved : (q - p) + n ≡ (n - p) + q = omega arith in
     let whole : (n - p) + p ≡ n = omega arith in
     let back : run m (q - p) 1 ≡ 1 =
-        ap (run m (q - p)) (sym (t .turned)) ∙ sym (run-add m (q - p) n 1) ∙ ap (λ z. run m z 1) moved
-        ∙ run-add m (n - p) q 1 ∙ ap (run m (n - p)) (sym e) ∙ sym (run-add m (n - p) p 1) ∙ ap (λ z. run m z 1) whole ∙ t .turned in
+    ap (run m (q - p)) (sym (t .turned)) ∙ sym (run-add m (q - p) n 1) ∙ ap (λ z. run m z 1) moved
+    ∙ run-add m (n - p) q 1 ∙ ap (run m (n - p)) (sym e) ∙ sym (run-add m (n - p) p 1) ∙ ap (λ z. run m z 1) whole ∙ t .turned in
     away-at m (2 ^ m - 2) 1 (t .new) (q - p) (omega arith) (omega arith) back
 
 power-laws-at : (m : ℕ) → Fit m → Tested m → PowerLaws (house m)
@@ -148,15 +150,16 @@ power-laws-at m fit t = record {
   alpha-lt = each (λ k. 2 < 2 ^ k) (lit< tt) (lit< tt) (lit< tt) (lit< tt) (lit< tt) m fit;
   turn = power-run m fit (2 ^ m - 1) ∙ t .turned;
   some = λ a pos lt.
-    let s : ℕ = seek m (2 ^ m - 1) 0 1 a in
-    let h : s < 2 ^ m - 1 = reached-at m (2 ^ m - 1) (2 ^ m - 1) (t .all) a pos (omega arith) in
-    (s, h, power-run m fit s ∙ seek-power m (2 ^ m - 1) 0 1 a (start m) (omega arith));
+      let s : ℕ = seek m (2 ^ m - 1) 0 1 a in
+      let h : s < 2 ^ m - 1 = reached-at m (2 ^ m - 1) (2 ^ m - 1) (t .all) a pos (omega arith) in
+      (s, h, power-run m fit s ∙ seek-power m (2 ^ m - 1) 0 1 a (start m) (omega arith));
   once = λ p q hp hq e.
-    let e′ : run m p 1 ≡ run m q 1 = sym (power-run m fit p) ∙ e ∙ power-run m fit q in
-    elim (cases-order p q) [
-      inl same ↦ same
-    | inr (inl lt) ↦ absurd (clash m t p q lt hq e′)
-    | inr (inr lt) ↦ absurd (clash m t q p lt hp (sym e′)) ];
+      let e′ : run m p 1 ≡ run m q 1 = sym (power-run m fit p) ∙ e ∙ power-run m fit q in
+      elim (cases-order p q) [
+        | inl same ↦ same
+        | inr (inl lt) ↦ absurd (clash m t p q lt hq e′)
+        | inr (inr lt) ↦ absurd (clash m t q p lt hp (sym e′))
+      ];
 }
   where
     start : (k : ℕ) → 1 ≡ run k 0 1

@@ -18,11 +18,23 @@ pub each : (P : ℕ → Type 0) → P 4 → P 5 → P 6 → P 7 → P 8 → (m :
 each P p4 p5 p6 p7 p8 m fit =
     let lo : 4 ≤ m = fit .0 in
     let hi : m ≤ 8 = fit .1 in
-    elim (cases-eq m 4) [ inl e ↦ subst P (sym e) p4 | inr n4 ↦
-    elim (cases-eq m 5) [ inl e ↦ subst P (sym e) p5 | inr n5 ↦
-    elim (cases-eq m 6) [ inl e ↦ subst P (sym e) p6 | inr n6 ↦
-    elim (cases-eq m 7) [ inl e ↦ subst P (sym e) p7 | inr n7 ↦
-      let e : 8 ≡ m = omega arith in subst P e p8 ] ] ] ]
+    elim (cases-eq m 4) [
+      | inl e ↦ subst P (sym e) p4
+      | inr n4 ↦
+          elim (cases-eq m 5) [
+            | inl e ↦ subst P (sym e) p5
+            | inr n5 ↦
+                elim (cases-eq m 6) [
+                  | inl e ↦ subst P (sym e) p6
+                  | inr n6 ↦
+                      elim (cases-eq m 7) [
+                        | inl e ↦ subst P (sym e) p7
+                        | inr n7 ↦
+                            let e : 8 ≡ m = omega arith in subst P e p8
+                      ]
+                ]
+          ]
+    ]
 
 pick-lt : (b p n : ℕ) → 0 < n → p < n → pick b p < n
 pick-lt zero p n h k = h
@@ -32,14 +44,14 @@ pub shift-lt : (m x : ℕ) → shift m x < 2 ^ m
 unfolding shift
 shift-lt m x =
     xor-lt m ((x * 2) % 2 ^ m) (pick (x / 2 ^ (m - 1) % 2) (reducer m % 2 ^ m)) (mod-lt (x * 2) (pow-pos m))
-      (pick-lt (x / 2 ^ (m - 1) % 2) (reducer m % 2 ^ m) (2 ^ m) (pow-pos m) (mod-lt (reducer m) (pow-pos m)))
+    (pick-lt (x / 2 ^ (m - 1) % 2) (reducer m % 2 ^ m) (2 ^ m) (pow-pos m) (mod-lt (reducer m) (pow-pos m)))
 
 pub product-lt : (m k a x : ℕ) → x < 2 ^ m → product m k a x < 2 ^ m
 unfolding product
 product-lt m zero a x h = pow-pos m
 product-lt m (suc k) a x h =
     xor-lt m (pick (a % 2) x) (product m k (a / 2) (shift m x)) (pick-lt (a % 2) x (2 ^ m) (pow-pos m) h)
-      (product-lt m k (a / 2) (shift m x) (shift-lt m x))
+    (product-lt m k (a / 2) (shift m x) (shift-lt m x))
 
 pub shift-power : (m j : ℕ) → suc j < m → shift m (2 ^ j) ≡ 2 ^ suc j
 unfolding shift

@@ -24,7 +24,7 @@ module _ (F : FieldModel) (laws : FieldLaws F) where
       let r = laws .ring in
       let z = r .mul-lt a 0 h zero-lt in
       let twice : F .mul a 0 ≡ F .add (F .mul a 0) (F .mul a 0) =
-          ap (F .mul a) (sym (r .add-zero 0 zero-lt)) ∙ r .mul-add a 0 0 h zero-lt zero-lt in
+      ap (F .mul a) (sym (r .add-zero 0 zero-lt)) ∙ r .mul-add a 0 0 h zero-lt zero-lt in
       twice ∙ r .add-self (F .mul a 0) z
 
   pub zero-mul : (a : ℕ) → a < size F → F .mul 0 a ≡ 0
@@ -55,8 +55,8 @@ module _ (F : FieldModel) (laws : FieldLaws F) where
   power-unit p h e =
       let back : power F (units F - p) < size F = power-lt (units F - p) in
       let z : _≡_ {A = ℕ} 0 1 =
-          sym (zero-mul (power F (units F - p)) back)
-          ∙ ap (λ x. F .mul x (power F (units F - p))) (sym e) ∙ power-back p h in
+      sym (zero-mul (power F (units F - p)) back)
+      ∙ ap (λ x. F .mul x (power F (units F - p))) (sym e) ∙ power-back p h in
       omega arith
 
   pub inverse-of : (a e : ℕ) → IsExponent F a e → 0 < a → IsInverse F a (power F (units F - e))

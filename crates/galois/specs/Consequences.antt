@@ -9,7 +9,7 @@ pub record Consequences (F : FieldModel) : Type 0 where
   pub no-divisors : (a b : ℕ) → a < size F → b < size F → F .mul a b ≡ 0 → (a ≡ 0) ⊎ (b ≡ 0)
   -- squaring goes through sums
   pub square-of-sum : (a b : ℕ) → a < size F → b < size F
-    → F .mul (F .add a b) (F .add a b) ≡ F .add (F .mul a a) (F .mul b b)
+      → F .mul (F .add a b) (F .add a b) ≡ F .add (F .mul a a) (F .mul b b)
   -- powers add, and come round after n
   pub power-of-sum : (p q : ℕ) → power F (p + q) ≡ F .mul (power F p) (power F q)
   pub power-comes-round : (p : ℕ) → power F (p + units F) ≡ power F p

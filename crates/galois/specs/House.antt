@@ -10,6 +10,11 @@ use Rattle.galois.specs.Model.{FieldModel, FieldLaws, size, power}
 abbrev pub Fit : ℕ → Type 0
 Fit m = (4 ≤ m) × (m ≤ 8)
 
+-- d is the degree that is taken where m is asked for: m itself if it fits, else 4
+pub record Taken (m d : ℕ) : Type 0 where
+  pub fitting : Fit m → d ≡ m
+  pub unfit : (Fit m → ⊥) → d ≡ 4
+
 -- the reducing polynomial of degree m, bit i for x ^ i
 abbrev pub reducer : ℕ → ℕ
 reducer m = cond (eqb m 4) 0x13 (cond (eqb m 5) 0x25 (cond (eqb m 6) 0x43 (cond (eqb m 7) 0x89 0x11D)))

@@ -9,11 +9,9 @@ ghost use Rattle.galois.specs.Model.{FieldModel, FieldLaws};
 /// Every lawful field is a field as the textbooks have it, and its two questions, the inverse and the exponent, have exactly one answer.
 pub fn lawful_fields_are_fields()
     ensures { λ _. ⌜ ((F : FieldModel) → FieldLaws F → Consequences F) ⌝ }
-{
-}
+{}
 
 /// The house field of each degree from 4 to 8 is lawful, and it is the one field of polynomials modulo the reducing polynomial.
 pub fn house_fields_are_polynomial_fields()
     ensures { λ _. ⌜ ((m : ℕ) → Fit m → HouseField m) ⌝ }
-{
-}
+{}

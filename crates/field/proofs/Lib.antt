@@ -1,0 +1,4 @@
+pub mod Reduced
+pub mod Turns
+pub mod Lookups
+pub mod Totals

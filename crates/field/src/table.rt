@@ -1,0 +1,82 @@
+//! The house field that works by tables of powers and exponents, built when it is made: no loop in any question.
+ghost use mathlib.Core.Path.{_≡_};
+ghost use Rattle.galois.specs.House.{Taken, house};
+ghost use Rattle.galois.proofs.House.{house-laws};
+ghost use Rattle.field.specs.Tables.{Tables};
+use crate::Field;
+use crate::shift::ShiftArithmetic;
+use crate::shift::ShiftField;
+
+/// The same field as `ShiftField` of its degree.
+#[derive(Drop)]
+pub struct TableField {
+    base: ShiftField,
+    /// alpha^p for p below 2n, so that a sum of two exponents needs no reduction.
+    powers: [u8; 512],
+    exponents: [u8; 256],
+    ghost tied: { Tables (base .m) powers exponents },
+}
+
+impl TableField {
+    /// The house field of degree m; of degree 4 where m does not fit.
+    pub fn new(m: u8) -> Self
+        ensures { λ r. ⌜ Taken m (r .base .m) ⌝ }
+    {
+        let base = ShiftField::new(m);
+        let n = base.units();
+        let mut powers = [0u8; 512];
+        let mut exponents = [0u8; 256];
+        exponents[0] = n;
+        let mut y = 1;
+        for p in 0..n {
+            powers[p as usize] = y;
+            powers[p as usize + n as usize] = y;
+            exponents[y as usize] = p;
+            y = base.times_alpha(y);
+        }
+        TableField {
+            base,
+            powers,
+            exponents,
+        }
+    }
+}
+
+pub impl Field for TableField as TableArithmetic {
+    ghost model = { λ s. house (s .base .m) };
+
+    ghost lawful = { λ s. house-laws (s .base .m) (s .base .fit) };
+
+    fn degree(&self) -> u8 {
+        self.base.degree()
+    }
+
+    fn alpha(&self) -> u8 {
+        self.base.alpha()
+    }
+
+    fn add(&self, a: u8, b: u8) -> u8 {
+        self.base.add(a, b)
+    }
+
+    fn mul(&self, a: u8, b: u8) -> u8 {
+        let x = self.base.element(a);
+        let y = self.base.element(b);
+        if x == 0 || y == 0 {
+            return 0;
+        }
+        self.powers[self.exponents[x as usize] as usize + self.exponents[y as usize] as usize]
+    }
+
+    fn inverse(&self, a: u8) -> u8 {
+        let x = self.base.element(a);
+        if x == 0 {
+            return 0;
+        }
+        self.powers[self.base.units() as usize - self.exponents[x as usize] as usize]
+    }
+
+    fn exponent(&self, a: u8) -> u8 {
+        self.exponents[self.base.element(a) as usize]
+    }
+}
