@@ -6,3 +6,9 @@ pub mod HouseLinear
 pub mod HouseRing
 pub mod HousePowers
 pub mod House
+pub mod Determinants
+pub mod Vandermonde
+pub mod Roots
+pub mod Classes
+pub mod Tabulated
+pub mod PowerSums

@@ -2,3 +2,7 @@ pub mod Model
 pub mod House
 pub mod Consequences
 pub mod Ring
+pub mod Lists
+pub mod Sums
+pub mod Bits
+pub mod Rows
