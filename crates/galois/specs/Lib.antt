@@ -4,5 +4,4 @@ pub mod Consequences
 pub mod Ring
 pub mod Lists
 pub mod Sums
-pub mod Bits
 pub mod Rows
