@@ -5,3 +5,5 @@ pub mod Ring
 pub mod Lists
 pub mod Sums
 pub mod Rows
+pub mod Polynomials
+pub mod Cosets
