@@ -7,7 +7,7 @@ use lib.Dec.{eqb, leb, ltb}
 use lib.ListN.{length}
 use Rattle.std.specs.declared.result.Result.{Result}
 use Rattle.std.specs.declared.result.Result.the-variants.{Ok, Err}
-use Rattle.refusal.specs.Order.{When, Never}
+use Rattle.refusal.specs.Order.{Unless, Never}
 use Rattle.refusal.specs.declared.Refusal.{Refusal}
 use Rattle.refusal.specs.declared.Refusal.the-variants.{Length, UnusedBit, Cell}
 use Rattle.bits.specs.Bits.{bitAt, Sized, Unused, Buffer}
@@ -25,4 +25,4 @@ Changed f before after j (Err e) = (8 * length before ≤ j) × (e ≡ Cell) × 
 -- whether a buffer is one for n bits: its length is looked at first
 abbrev pub Admitted : {U : Type 0} → ℕ → List ℕ → Result U Refusal → Type 0
 Admitted n buffer (Ok u) = Buffer n buffer
-Admitted n buffer (Err e) = When (Sized n buffer → ⊥) Length (When (Unused n buffer → ⊥) UnusedBit Never) e
+Admitted n buffer (Err e) = Unless (Sized n buffer) Length (Unless (Unused n buffer) UnusedBit Never) e

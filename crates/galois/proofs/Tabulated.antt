@@ -1,9 +1,10 @@
 -- Lists and functions of the index: each is the other's, as far as the list goes.
 use mathlib.Core.Path.{_≡_, refl, sym, ap, ap₂, subst, _∙_}
 use mathlib.Core.List.{List, [], _∷_}
-use Prim.Native.Nat.{ℕ, zero, suc, _<_}
+use Prim.Native.Nat.{ℕ, zero, suc, _+_, _<_}
+use native.Mathlib.Nat.{zero-add, suc-add}
 use native.Mathlib.Omega.{arith}
-use lib.ListN.{length, getD}
+use lib.ListN.{length, getD, drop}
 use Rattle.galois.specs.Lists.{tabulate}
 
 module _ {A : Type 0} where
@@ -32,3 +33,10 @@ module _ {A : Type 0} where
   same-list xs ys d e h =
       sym (tabulate-getD xs d) ∙ tabulate-cong (λ j. getD xs j d) (λ j. getD ys j d) (length xs) h
       ∙ ap (tabulate (λ j. getD ys j d)) e ∙ tabulate-getD ys d
+
+  pub drop-tabulate : (f : ℕ → A) (r k : ℕ) → drop r (tabulate f (r + k)) ≡ tabulate (λ j. f (r + j)) k
+  unfolding tabulate
+  drop-tabulate f zero k = ap (tabulate f) (zero-add k) ∙ tabulate-cong f (λ j. f (0 + j)) k (λ j _. ap f (sym (zero-add j)))
+  drop-tabulate f (suc r) k =
+      ap (λ n. drop (suc r) (tabulate f n)) (suc-add r k) ∙ drop-tabulate (λ j. f (suc j)) r k
+      ∙ tabulate-cong (λ j. f (suc (r + j))) (λ j. f (suc r + j)) k (λ j _. ap f (sym (suc-add r j)))

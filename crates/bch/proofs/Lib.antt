@@ -1,0 +1,11 @@
+pub mod Cells
+pub mod Registers
+pub mod CodeRows
+pub mod Published
+pub mod Encoding
+pub mod Counts
+pub mod Packing
+pub mod Factors
+pub mod Turns
+pub mod Laying
+pub mod Refusing

@@ -1,0 +1,4 @@
+pub mod Buffers
+pub mod Published
+pub mod Calls
+pub mod Steps
