@@ -12,3 +12,6 @@ pub mod Roots
 pub mod Classes
 pub mod Tabulated
 pub mod PowerSums
+pub mod Distances
+pub mod Differ
+pub mod Least
