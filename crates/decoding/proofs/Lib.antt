@@ -6,3 +6,4 @@ pub mod Located
 pub mod Tracks
 pub mod Steps
 pub mod Searches
+pub mod Computed

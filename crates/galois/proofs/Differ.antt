@@ -1,7 +1,7 @@
 -- The positions at which two rows differ, as a list: how many they are, which elements they stand for, and their power sums.
 use mathlib.Core.Path.{_≡_, refl, sym, ap, ap₂, subst, _∙_}
 use mathlib.Core.Logic.{_≢_, _⊎_, inl, inr}
-use mathlib.Core.Bool.{Bool, true, false, cond}
+use mathlib.Core.Bool.{Bool, true, false, not, cond}
 use mathlib.Core.List.{List, [], _∷_}
 use Prim.Native.Nat.{ℕ, zero, suc, _+_, _*_, _≤_, _<_}
 use native.Mathlib.Nat.{zero-mul, suc-mul, add-comm}
@@ -15,10 +15,10 @@ use Rattle.galois.specs.Sums.{S}
 use Rattle.galois.specs.Bits.{xor}
 use Rattle.galois.specs.Rows.{powerSum, unlike}
 use Rattle.galois.proofs.Solve.{var, O, _⊕_, solve}
-use Rattle.galois.proofs.Laws.{power-add, power-unit}
+use Rattle.galois.proofs.Laws.{power-lt, power-add, power-unit}
 use Rattle.galois.proofs.Lift.{Element, same, ops, ring2, alpha, once, number, pow-power}
-use Rattle.galois.proofs.PowerSums.{powerSum-lt}
-use Rattle.galois.proofs.Distances.{apart}
+use Rattle.galois.proofs.PowerSums.{powerSum-lt, powerSum-cong}
+use Rattle.galois.proofs.Distances.{apart, Turns}
 
 -- the positions below n at which two rows differ, the highest first
 unfoldable pub differ : (c d : ℕ → Bool) → ℕ → List ℕ
@@ -144,3 +144,30 @@ module _ (F : FieldModel) (l : FieldLaws F) where
       step false true u v h =
           ap (ops F l .add (pow (ops F l) (X n) i)) h ∙ solve (ring2 F l) (u ∷ v ∷ pow (ops F l) (X n) i ∷ []) (var 2 ⊕ (var 0 ⊕ var 1)) (var 0 ⊕ O ⊕ (var 1 ⊕ var 2)) tt
       step false false u v h = h ∙ solve (ring2 F l) (u ∷ v ∷ []) (var 0 ⊕ var 1) (var 0 ⊕ O ⊕ (var 1 ⊕ O)) tt
+
+  -- a turn adds the power of its position
+  pub turn-sum : (c x : ℕ → Bool) (i p n : ℕ) → p < n → Turns c x p → powerSum F i x n ≡ F .add (powerSum F i c n) (power F (i * p))
+  unfolding powerSum
+  turn-sum c x i p zero lt h = absurd (omega arith)
+  turn-sum c x i p (suc n) lt h =
+      elim (cases-eq n p) [
+        | inl e ↦
+            ap₂ (λ s b. F .add s (cond b (power F (i * n)) 0)) (powerSum-cong F i x c n (λ j u. h .there j (omega arith)))
+            (subst (λ q. x q ≡ not (c q)) (sym e) (h .here))
+            ∙ flip (c n) ∙ ap (λ q. F .add (powerSum F i c (suc n)) (power F (i * q))) e
+        | inr e ↦
+            ap₂ (λ s b. F .add s (cond b (power F (i * n)) 0)) (turn-sum c x i p n (omega arith) h) (h .there n e) ∙ swap (c n)
+      ]
+    where
+      at : ℕ → Element F
+      at q = (power F (i * q), power-lt F l (i * q))
+
+      flip : (b : Bool) → F .add (powerSum F i c n) (cond (not b) (power F (i * n)) 0)
+          ≡ F .add (F .add (powerSum F i c n) (cond b (power F (i * n)) 0)) (power F (i * n))
+      flip true = number F l (solve (ring2 F l) (sumOf i c n ∷ at n ∷ []) (var 0 ⊕ O) (var 0 ⊕ var 1 ⊕ var 1) tt)
+      flip false = number F l (solve (ring2 F l) (sumOf i c n ∷ at n ∷ []) (var 0 ⊕ var 1) (var 0 ⊕ O ⊕ var 1) tt)
+
+      swap : (b : Bool) → F .add (F .add (powerSum F i c n) (power F (i * p))) (cond b (power F (i * n)) 0)
+          ≡ F .add (F .add (powerSum F i c n) (cond b (power F (i * n)) 0)) (power F (i * p))
+      swap true = number F l (solve (ring2 F l) (sumOf i c n ∷ at n ∷ at p ∷ []) (var 0 ⊕ var 2 ⊕ var 1) (var 0 ⊕ var 1 ⊕ var 2) tt)
+      swap false = number F l (solve (ring2 F l) (sumOf i c n ∷ at p ∷ []) (var 0 ⊕ var 1 ⊕ O) (var 0 ⊕ O ⊕ var 1) tt)
