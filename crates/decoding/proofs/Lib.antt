@@ -7,3 +7,5 @@ pub mod Tracks
 pub mod Steps
 pub mod Searches
 pub mod Computed
+pub mod Turning
+pub mod Zeros
