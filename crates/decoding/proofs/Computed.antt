@@ -3,17 +3,16 @@ use mathlib.Core.Path.{_≡_, refl, sym, ap, ap₂, subst, _∙_}
 use mathlib.Core.Logic.{_≢_, _⊎_, inl, inr}
 use mathlib.Core.Bool.{Bool}
 use mathlib.Core.List.{[], _∷_}
-use Prim.Native.Nat.{ℕ, zero, suc, _+_, _*_, _≤_, _<_}
+use Prim.Native.Nat.{ℕ, zero, suc, _+_, _*_, _<_}
 use native.Mathlib.Nat.{mod-eq-of-lt}
 use native.Mathlib.Omega.{arith}
 use Rattle.galois.specs.Model.{FieldModel, FieldLaws, IsInverse, size, units, power, elem, sum-of, product-of}
-use Rattle.galois.specs.Ring.{pow}
-use Rattle.galois.specs.Sums.{S, D2, D3}
+use Rattle.galois.specs.Sums.{D2, D3}
 use Rattle.galois.specs.Rows.{powerSum, Few}
 use Rattle.galois.proofs.Solve.{var, _⊕_, _⊗_, solve}
 use Rattle.galois.proofs.Determinants.{powE}
 use Rattle.galois.proofs.Laws.{mul-zero, power-lt, power-add}
-use Rattle.galois.proofs.Lift.{Element, same, ops, ring2, number, pow-power}
+use Rattle.galois.proofs.Lift.{Element, same, ops, ring2, number}
 use Rattle.galois.proofs.PowerSums.{powerSum-lt}
 use Rattle.galois.proofs.Distances.{Turns}
 use Rattle.galois.proofs.Differ.{turn-sum}

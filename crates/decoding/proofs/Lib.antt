@@ -4,8 +4,8 @@ pub mod Classed
 pub mod Products
 pub mod Located
 pub mod Tracks
-pub mod Steps
-pub mod Searches
+pub mod StepSearch
+pub mod RootSearch
 pub mod Computed
 pub mod Turning
 pub mod Zeros

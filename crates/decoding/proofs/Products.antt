@@ -1,12 +1,12 @@
 -- The locator of one, two or three elements is the product of x + each of them, times a power of x.
-use mathlib.Core.Path.{_≡_, refl, sym, ap, ap₂, _∙_}
-use mathlib.Core.Logic.{_≢_, _⊎_, inl, inr}
+use mathlib.Core.Path.{_≡_, sym, ap, ap₂, _∙_}
+use mathlib.Core.Logic.{_≢_, inl, inr}
 use mathlib.Core.Bool.{Bool}
 use mathlib.Core.List.{List, [], _∷_}
-use Prim.Native.Nat.{ℕ, zero, suc, _≤_, _<_}
+use Prim.Native.Nat.{ℕ, zero, suc, _≤_}
 use native.Mathlib.Omega.{arith}
 use lib.ListN.{length}
-use Rattle.galois.specs.Ring.{Ops, Ring2, Field2, pow}
+use Rattle.galois.specs.Ring.{Ops, Field2, pow}
 use Rattle.galois.specs.Lists.{All, Distinct}
 use Rattle.galois.specs.Sums.{S, D2}
 use Rattle.galois.specs.Rows.{Few}

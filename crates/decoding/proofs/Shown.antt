@@ -6,14 +6,13 @@ use mathlib.Core.List.{List}
 use Prim.Native.Nat.{ℕ, zero, suc, _+_, _-_, _≤_, _<_}
 use native.Mathlib.Omega.{arith}
 use lib.Dec.{eqb}
-use lib.ListN.{length}
 use Rattle.std.proofs.shelf.Tests.{eqb-true}
 use Rattle.galois.specs.Model.{FieldModel, FieldLaws, units}
 use Rattle.galois.specs.Sums.{S, D2, D3, class}
 use Rattle.galois.specs.Rows.{powerSum, Few}
 use Rattle.galois.proofs.Lift.{ops, is0, field2}
 use Rattle.galois.proofs.Classes.{class-is-count, one-more}
-use Rattle.galois.proofs.Distances.{apart, apart-none, apart-self}
+use Rattle.galois.proofs.Distances.{apart, apart-self}
 use Rattle.galois.proofs.Differ.{differ, length-differ, X, all-units, distinct}
 use Rattle.galois.proofs.Least.{Code, code-sums}
 use Rattle.decoding.specs.Classes.{numbers, classOf}

@@ -1,8 +1,8 @@
 -- A search that goes through the positions of a row once, turns some of them, and follows every code row near the row that it began with.
 -- Rows are functions of the position: c is the row that the search began with, x the row as it stands.
-use mathlib.Core.Path.{_≡_, refl, sym, ap, subst, _∙_}
-use mathlib.Core.Logic.{_≢_, _⊎_, inl, inr}
-use mathlib.Core.Bool.{Bool, not}
+use mathlib.Core.Path.{_≡_, refl, sym, subst, _∙_}
+use mathlib.Core.Logic.{_≢_, inl, inr}
+use mathlib.Core.Bool.{Bool}
 use mathlib.Core.List.{List}
 use Prim.Native.Nat.{ℕ, suc, _+_, _≤_, _<_}
 use native.Mathlib.Omega.{arith}
@@ -27,8 +27,8 @@ pub record Found (F : FieldModel) (t : ℕ) (c x : ℕ → Bool) (count : ℕ) :
   pub counted : count ≡ apart c x (units F)
 
 -- no code row is within t positions of c
-abbrev pub Lost : FieldModel → ℕ → (ℕ → Bool) → Type 0
-Lost F t c = (d : ℕ → Bool) → Within F t c d → ⊥
+abbrev pub NoneWithin : FieldModel → ℕ → (ℕ → Bool) → Type 0
+NoneWithin F t c = (d : ℕ → Bool) → Within F t c d → ⊥
 
 -- code rows are code rows by their first n cells
 pub code-cong : (F : FieldModel) (t : ℕ) (c d : ℕ → Bool) → ((j : ℕ) → j < units F → c j ≡ d j) → Code F t d → Code F t c
@@ -81,10 +81,10 @@ module _ (F : FieldModel) (t : ℕ) where
       record { within = record { code = code; close = omega arith }; counted = n }
 
   -- where it comes to its end at none, or took more turns, there is none
-  pub track-lost : (c x : ℕ → Bool) (p count : ℕ) → p ≡ units F → Track F t c x p count → (Code F t x → ⊥) → Lost F t c
-  track-lost c x p count e T fails d W = fails (code-cong F t x d (λ j h. T .follows d W j (omega arith)) (W .code))
+  pub track-none : (c x : ℕ → Bool) (p count : ℕ) → p ≡ units F → Track F t c x p count → (Code F t x → ⊥) → NoneWithin F t c
+  track-none c x p count e T fails d W = fails (code-cong F t x d (λ j h. T .follows d W j (omega arith)) (W .code))
 
-  pub track-many : (c x : ℕ → Bool) (p count : ℕ) → p ≡ units F → Track F t c x p count → t < count → Lost F t c
+  pub track-many : (c x : ℕ → Bool) (p count : ℕ) → p ≡ units F → Track F t c x p count → t < count → NoneWithin F t c
   track-many c x p count e T many d W =
       let z = T .counted in
       let w = W .close in
@@ -100,8 +100,8 @@ module _ (F : FieldModel) (t : ℕ) where
       → Near F t (tabulate c (units F)) (tabulate x (units F)) × (count ≡ distance (tabulate c (units F)) (tabulate x (units F)))
   found-near c x count R = (near-tabulate F t c x (R .within), R .counted ∙ sym (distance-tabulate c x (units F)))
 
-  pub lost-near : (c : ℕ → Bool) → Lost F t c → (d : List Bool) → Near F t (tabulate c (units F)) d → ⊥
-  lost-near c lost d N = lost (cellOf d) (tabulate-near F t c d N)
+  pub none-near : (c : ℕ → Bool) → NoneWithin F t c → (d : List Bool) → Near F t (tabulate c (units F)) d → ⊥
+  none-near c none d N = none (cellOf d) (tabulate-near F t c d N)
 
 -- there is no other to be found
 pub found-only : (F : FieldModel) → FieldLaws F → (t : ℕ) (c x d : ℕ → Bool) (count : ℕ) → Found F t c x count → Within F t c d

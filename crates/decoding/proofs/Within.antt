@@ -1,10 +1,10 @@
 -- Code rows near a row, for rows as functions of the position, and how lists of cells are such rows.
-use mathlib.Core.Path.{_≡_, refl, sym, ap, ap₂, subst, _∙_}
+use mathlib.Core.Path.{_≡_, ap, _∙_}
 use mathlib.Core.Bool.{Bool, false}
 use mathlib.Core.List.{List}
 use Prim.Native.Nat.{ℕ, suc, _+_, _≤_, _<_}
 use native.Mathlib.Omega.{arith}
-use lib.ListN.{length, getD}
+use lib.ListN.{length}
 use Rattle.galois.specs.Model.{FieldModel, units}
 use Rattle.galois.specs.Lists.{tabulate}
 use Rattle.galois.specs.Rows.{powerSum, cellOf, syndrome, CodeRow, distance, Near}

@@ -1,10 +1,9 @@
 -- Code rows and class 0 by the three power sums, of which the code looks at the first t.
-use mathlib.Core.Path.{_≡_, refl, sym, ap, ap₂, _∙_}
+use mathlib.Core.Path.{_≡_, ap, ap₂, _∙_}
 use mathlib.Core.Bool.{Bool}
-use mathlib.Core.List.{[], _∷_}
-use Prim.Native.Nat.{ℕ, zero, suc, _+_, _≤_, _<_}
+use mathlib.Core.List.{[]}
+use Prim.Native.Nat.{ℕ, zero, suc, _≤_}
 use native.Mathlib.Omega.{arith}
-use Rattle.std.proofs.shelf.Tests.{eq-eqb}
 use Rattle.galois.specs.Model.{FieldModel, FieldLaws, units}
 use Rattle.galois.specs.Sums.{D3}
 use Rattle.galois.specs.Rows.{powerSum, Few}
@@ -13,7 +12,6 @@ use Rattle.galois.proofs.Determinants.{powE}
 use Rattle.galois.proofs.Lift.{ring2, number}
 use Rattle.galois.proofs.Least.{Code}
 use Rattle.decoding.specs.Classes.{numbers, classOf}
-use Rattle.decoding.proofs.Shown.{class-cong}
 
 -- the first t of the sums are zero
 abbrev pub Zeros : (t s1 s3 s5 : ℕ) → Type 0

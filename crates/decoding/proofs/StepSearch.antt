@@ -1,6 +1,6 @@
 -- The search step by step: a turn is kept where it lowers the class of the row by one.
-use mathlib.Core.Path.{_≡_, refl, sym, ap, subst, _∙_}
-use mathlib.Core.Logic.{_≢_, _⊎_, inl, inr}
+use mathlib.Core.Path.{_≡_, sym, ap, subst, _∙_}
+use mathlib.Core.Logic.{_≢_, inl, inr}
 use mathlib.Core.Bool.{Bool}
 use Prim.Native.Nat.{ℕ, suc, _+_, _≤_, _<_}
 use native.Mathlib.Omega.{arith}
@@ -10,7 +10,7 @@ use Rattle.galois.specs.Rows.{powerSum, Few}
 use Rattle.galois.proofs.Distances.{apart, same-or-other, Turns, turn-nearer, turn-farther}
 use Rattle.decoding.proofs.Within.{Within}
 use Rattle.decoding.proofs.Shown.{classAt, class-is-apart, class-past, class-bound, clean-code, code-clean}
-use Rattle.decoding.proofs.Tracks.{Track, Found, Lost, track-start, track-leave, track-turn, track-within, track-found, track-lost}
+use Rattle.decoding.proofs.Tracks.{Track, Found, NoneWithin, track-start, track-leave, track-turn, track-within, track-found, track-none}
 
 -- what the search knows before position p: the class k of the row as it stands, and that there is room for k more turns
 pub record Steps (F : FieldModel) (t : ℕ) (c x : ℕ → Bool) (p count k : ℕ) : Type 0 where
@@ -39,6 +39,10 @@ module _ (F : FieldModel) (l : FieldLaws F) (t : ℕ) (few : Few t) where
           | inl less ↦ let u = class-is-apart F l t few y d (record { code = W .code; close = omega arith }) in omega arith
           | inr full ↦ class-past F l t few y d (W .code) (omega arith) (omega arith)
         ]
+
+  -- a class past t shows that no code row is within t
+  pub beyond-none : (c : ℕ → Bool) (k : ℕ) → k ≡ classAt F t c → t < k → NoneWithin F t c
+  beyond-none c k e past d W = let z = class-is-apart F l t few c d W in let w = W .close in omega arith
 
   pub steps-start : (c : ℕ → Bool) (k : ℕ) → k ≡ classAt F t c → Steps F t c c 0 0 k
   steps-start c k e = record {
@@ -84,5 +88,5 @@ module _ (F : FieldModel) (l : FieldLaws F) (t : ℕ) (few : Few t) where
   steps-found c x p count k K none =
       track-found F t c x p count (K .track) (clean-code F l t few x (sym (K .class) ∙ none)) (let z = K .room (omega arith) in omega arith)
 
-  pub steps-lost : (c x : ℕ → Bool) (p count k : ℕ) → p ≡ units F → Steps F t c x p count k → k ≢ 0 → Lost F t c
-  steps-lost c x p count k e K some = track-lost F t c x p count e (K .track) (λ code. some (K .class ∙ code-clean F l t few x code))
+  pub steps-none : (c x : ℕ → Bool) (p count k : ℕ) → p ≡ units F → Steps F t c x p count k → k ≢ 0 → NoneWithin F t c
+  steps-none c x p count k e K some = track-none F t c x p count e (K .track) (λ code. some (K .class ∙ code-clean F l t few x code))
