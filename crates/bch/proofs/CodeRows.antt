@@ -11,18 +11,15 @@ use Rattle.bits.specs.Bits.{bitOf}
 use Rattle.galois.specs.Model.{FieldModel, FieldLaws, units}
 use Rattle.galois.specs.Polynomials.{value, generated}
 use Rattle.galois.specs.Ring.{Ops, Ring2, Field2, pow}
-use Rattle.galois.specs.Rows.{Few, powerSum, checkCells, dataCells}
+use Rattle.galois.specs.Rows.{Few, checkCells, dataCells}
 use Rattle.galois.proofs.Polynomials.{value-cong, value-split}
 use Rattle.galois.proofs.Cosets.{Fine, fine}
 use Rattle.galois.proofs.Generators.{generator-bit, generator-low, starts-vanish, only-one}
+use Rattle.galois.proofs.Least.{Code}
 use Rattle.galois.proofs.Lift.{Element, same, ops, ring2, field2, number, alpha, turn, once}
 use Rattle.bch.specs.Steps.{coefficient, register}
 use Rattle.bch.proofs.Cells.{bitK, bitK-square, bitK-once, bitK-of, rowValue, powerSum-value, rootAt, generated-number}
 use Rattle.bch.proofs.Registers.{bitsK, register-value}
-
--- the power sums at 1, 3 .. 2t - 1 are zero
-abbrev pub Code : FieldModel → ℕ → (ℕ → Bool) → Type 0
-Code F t c = (i : ℕ) → i < t → powerSum F (suc (i + i)) c (units F) ≡ 0
 
 -- g's bits are the coefficients of the product of the factors
 abbrev pub Packs : FieldModel → ℕ → ℕ → Type 0
@@ -47,8 +44,9 @@ module _ (F : FieldModel) (l : FieldLaws F) (t : ℕ) (few : Few t) where
   pub coefficient-lt : (i : ℕ) → coefficient F r i < 2
   coefficient-lt i =
       elim (coefficient-bit i) [
-        inl p ↦ let z : coefficient F r i ≡ 0 = sym (generated-number F l r i) ∙ number F l p in omega arith
-      | inr p ↦ let z : coefficient F r i ≡ 1 = sym (generated-number F l r i) ∙ number F l p in omega arith ]
+        | inl p ↦ let z : coefficient F r i ≡ 0 = sym (generated-number F l r i) ∙ number F l p in omega arith
+        | inr p ↦ let z : coefficient F r i ≡ 1 = sym (generated-number F l r i) ∙ number F l p in omega arith
+      ]
 
   -- the coefficient as a cell, and back as an element
   pub bitK-coefficient : (i : ℕ) → bitK F l (eqb (coefficient F r i) 1) ≡ generated (ops F l) (rootAt F l) r i
@@ -76,9 +74,9 @@ module _ (F : FieldModel) (l : FieldLaws F) (t : ℕ) (few : Few t) where
   one-row c d cc cd same-data j lt =
       bitK-once F l (c j) (d j)
       (only-one (field2 F l) (alpha F l) (units F) (turn F l) (once F l) t r is-fine (λ p. bitK F l (c p)) (λ p. bitK F l (d p)) k
-        (λ i _. bitK-square F l (c i)) (λ i _. bitK-square F l (d i))
-        (λ i ge u. let z : r + (i - r) ≡ i = omega arith in ap (λ n. bitK F l (c n)) (sym z) ∙ ap (bitK F l) (same-data (i - r) (omega arith)) ∙ ap (λ n. bitK F l (d n)) z)
-        (from-code c cc) (from-code d cd) j (let z = all-cells in omega arith))
+      (λ i _. bitK-square F l (c i)) (λ i _. bitK-square F l (d i))
+      (λ i ge u. let z : r + (i - r) ≡ i = omega arith in ap (λ n. bitK F l (c n)) (sym z) ∙ ap (bitK F l) (same-data (i - r) (omega arith)) ∙ ap (λ n. bitK F l (d n)) z)
+      (from-code c cc) (from-code d cd) j (let z = all-cells in omega arith))
 
   -- the register's bits below the data make a code row
   module _ (g : ℕ) (G : Packs F t g) (given row : ℕ → Bool)
@@ -93,13 +91,13 @@ module _ (F : FieldModel) (l : FieldLaws F) (t : ℕ) (few : Few t) where
         let pos = is-fine .some in
         let z : suc (r - 1) ≡ r = omega arith in
         let reg : value (ops F l) (bitsK F l (register g r given 0 k)) r b ≡ ops F l .mul p (value (ops F l) (λ i. bitK F l (given (0 + i))) k b) =
-            subst (λ n. value (ops F l) (bitsK F l (register g n given 0 k)) n b ≡ ops F l .mul (pow (ops F l) b n) (value (ops F l) (λ i. bitK F l (given (0 + i))) k b)) z
-            (register-value F l g (r - 1) given b (subst (λ n. value (ops F l) (bitsK F l g) n b ≡ pow (ops F l) b n) (sym z) (low g G d h)) k 0) in
+        subst (λ n. value (ops F l) (bitsK F l (register g n given 0 k)) n b ≡ ops F l .mul (pow (ops F l) b n) (value (ops F l) (λ i. bitK F l (given (0 + i))) k b)) z
+        (register-value F l g (r - 1) given b (subst (λ n. value (ops F l) (bitsK F l g) n b ≡ pow (ops F l) b n) (sym z) (low g G d h)) k 0) in
         value-split R (λ p. bitK F l (row p)) r k b
         ∙ ap₂ (λ y w. ops F l .add y (ops F l .mul p w))
-          (value-cong R (λ p. bitK F l (row p)) (bitsK F l (register g r given 0 k)) r b (λ i lt. ap (bitK F l) (below i lt))
-           ∙ reg ∙ ap (ops F l .mul p) (value-cong R (λ i. bitK F l (given (0 + i))) (λ i. bitK F l (given i)) k b (λ i _. ap (λ n. bitK F l (given n)) (omega arith))))
-          (value-cong R (λ i. bitK F l (row (r + i))) (λ i. bitK F l (given i)) k b (λ i lt. ap (bitK F l) (above i lt)))
+        (value-cong R (λ p. bitK F l (row p)) (bitsK F l (register g r given 0 k)) r b (λ i lt. ap (bitK F l) (below i lt))
+        ∙ reg ∙ ap (ops F l .mul p) (value-cong R (λ i. bitK F l (given (0 + i))) (λ i. bitK F l (given i)) k b (λ i _. ap (λ n. bitK F l (given n)) (omega arith))))
+        (value-cong R (λ i. bitK F l (row (r + i))) (λ i. bitK F l (given i)) k b (λ i lt. ap (bitK F l) (above i lt)))
         ∙ R .add-self (ops F l .mul p v)
 
     pub register-code : Code F t row

@@ -16,12 +16,13 @@ use Rattle.bits.proofs.Turning.{xor-false}
 use Rattle.galois.specs.Lists.{tabulate}
 use Rattle.galois.specs.Model.{FieldModel, FieldLaws, units}
 use Rattle.galois.specs.Rows.{Few, powerSum, cellOf, CodeRow, checkCells, dataCells, dataOf, Systematic}
+use Rattle.galois.proofs.Least.{Code, code-cells}
 use Rattle.galois.proofs.PowerSums.{powerSum-cong}
 use Rattle.galois.proofs.Tabulated.{length-tabulate, getD-tabulate, tabulate-cong, drop-tabulate, same-list}
 use Rattle.bch.specs.Buffers.{shown}
 use Rattle.bch.specs.Published.{shifted, product, IsGenerator, ByDivision}
 use Rattle.bch.specs.Steps.{coefficient, register, laid}
-use Rattle.bch.proofs.CodeRows.{Code, Packs, all-cells, one-row, register-code}
+use Rattle.bch.proofs.CodeRows.{Packs, all-cells, one-row, register-code}
 use Rattle.bch.proofs.Published.{g, generates, code-multiple, xor-self, shifted-low, shifted-from}
 
 -- what a list of cells says at each position is what its function says
@@ -33,12 +34,9 @@ pub shown-code : (F : FieldModel) (t : ℕ) (buffer : List ℕ) → Code F t (bi
 shown-code F t buffer code = record {
   cells = length-tabulate (bitAt 8 buffer) (units F);
   zeros = λ i lt.
-    ap (powerSum F (suc (i + i)) (cellOf (shown (units F) buffer))) (length-tabulate (bitAt 8 buffer) (units F))
-    ∙ powerSum-cong F (suc (i + i)) (cellOf (shown (units F) buffer)) (bitAt 8 buffer) (units F) (cell-shown (units F) buffer) ∙ code i lt;
+      ap (powerSum F (suc (i + i)) (cellOf (shown (units F) buffer))) (length-tabulate (bitAt 8 buffer) (units F))
+      ∙ powerSum-cong F (suc (i + i)) (cellOf (shown (units F) buffer)) (bitAt 8 buffer) (units F) (cell-shown (units F) buffer) ∙ code i lt;
 }
-
-pub code-cells : (F : FieldModel) (t : ℕ) (row : List Bool) → CodeRow F t row → Code F t (cellOf row)
-code-cells F t row code i lt = ap (powerSum F (suc (i + i)) (cellOf row)) (sym (code .cells)) ∙ code .zeros i lt
 
 bitOf-past : (x i : ℕ) → x < 2 ^ i → bitOf x i ≡ false
 bitOf-past x i h = ap (λ y. eqb (y % 2) 1) (div-eq-of-lt h)
@@ -95,13 +93,13 @@ module _ (F : FieldModel) (l : FieldLaws F) (t : ℕ) (few : Few t) where
     systematic = record {
       code = shown-code F t row code;
       holds =
-        ap (λ m. drop r (tabulate (bitAt 8 row) m)) (sym (all-cells F l t few)) ∙ drop-tabulate (bitAt 8 row) r k
-        ∙ tabulate-cong (λ j. bitAt 8 row (r + j)) (bitAt 8 given) k above;
+          ap (λ m. drop r (tabulate (bitAt 8 row) m)) (sym (all-cells F l t few)) ∙ drop-tabulate (bitAt 8 row) r k
+          ∙ tabulate-cong (λ j. bitAt 8 row (r + j)) (bitAt 8 given) k above;
       only = λ other co eq.
-        same-list other (shown n row) false (co .cells ∙ sym (length-tabulate (bitAt 8 row) n))
-        (λ j lt. let h : j < n = subst (λ m. j < m) (co .cells) lt in
+          same-list other (shown n row) false (co .cells ∙ sym (length-tabulate (bitAt 8 row) n))
+          (λ j lt. let h : j < n = subst (λ m. j < m) (co .cells) lt in
           one-row F l t few (cellOf other) (bitAt 8 row) (code-cells F t other co) code
-            (λ i u. sym (getD-drop r other i false) ∙ ap (λ d. getD d i false) eq ∙ getD-tabulate (bitAt 8 given) k false i u ∙ sym (above i u)) j h
+          (λ i u. sym (getD-drop r other i false) ∙ ap (λ d. getD d i false) eq ∙ getD-tabulate (bitAt 8 given) k false i u ∙ sym (above i u)) j h
           ∙ sym (cell-shown n row j h));
     }
 
@@ -110,16 +108,19 @@ module _ (F : FieldModel) (l : FieldLaws F) (t : ℕ) (few : Few t) where
 
     -- below r the data times x ^ r is zero, from r on the remainder is
     parts : (j : ℕ) → j < n
-      → ((shifted r (cellOf (shown k given)) j ≡ false) × (remainder j ≡ bitAt 8 row j)) ⊎ ((shifted r (cellOf (shown k given)) j ≡ bitAt 8 row j) × (remainder j ≡ false))
+        → ((shifted r (cellOf (shown k given)) j ≡ false) × (remainder j ≡ bitAt 8 row j)) ⊎ ((shifted r (cellOf (shown k given)) j ≡ bitAt 8 row j) × (remainder j ≡ false))
     unfolding remainder
     parts j h = elim (cases-lt j r) [
-        inl lt ↦ inl (shifted-low r (cellOf (shown k given)) j lt, ap (λ b. cond b (bitAt 8 row j) false) (lt-ltb j r lt))
+      | inl lt ↦ inl (shifted-low r (cellOf (shown k given)) j lt, ap (λ b. cond b (bitAt 8 row j) false) (lt-ltb j r lt))
       | inr ge ↦
           let z = all-cells F l t few in
           let back : r + (j - r) ≡ j = omega arith in
           let small : j - r < k = omega arith in
-          inr (shifted-from r (cellOf (shown k given)) j ge ∙ cell-shown k given (j - r) small ∙ sym (above (j - r) small) ∙ ap (bitAt 8 row) back,
-               ap (λ b. cond b (bitAt 8 row j) false) (le-ltb j r ge)) ]
+          inr (
+            shifted-from r (cellOf (shown k given)) j ge ∙ cell-shown k given (j - r) small ∙ sym (above (j - r) small) ∙ ap (bitAt 8 row) back,
+            ap (λ b. cond b (bitAt 8 row j) false) (le-ltb j r ge),
+          )
+    ]
 
     pub by-division : ByDivision F t (shown k given) (shown n row)
     unfolding remainder
@@ -132,11 +133,13 @@ module _ (F : FieldModel) (l : FieldLaws F) (t : ℕ) (few : Few t) where
           generates = generates F l t few;
           smaller = λ j h. ap (λ b. cond b (bitAt 8 row j) false) (le-ltb j r h);
           divides = λ j h.
-            let row-is = q .1 j (let z = all-cells F l t few in omega arith) in
-            elim (parts j h) [
-              inl p ↦ p .0 ∙ sym (ap₂ xor (sym row-is) (p .1) ∙ xor-self (bitAt 8 row j))
-            | inr p ↦ p .0 ∙ sym (ap₂ xor (sym row-is) (p .1) ∙ xor-false (bitAt 8 row j)) ];
+              let row-is = q .1 j (let z = all-cells F l t few in omega arith) in
+              elim (parts j h) [
+                | inl p ↦ p .0 ∙ sym (ap₂ xor (sym row-is) (p .1) ∙ xor-self (bitAt 8 row j))
+                | inr p ↦ p .0 ∙ sym (ap₂ xor (sym row-is) (p .1) ∙ xor-false (bitAt 8 row j))
+              ];
           sum = λ j h. cell-shown n row j h ∙ elim (parts j h) [
-              inl p ↦ sym (ap₂ xor (p .0) (p .1))
-            | inr p ↦ sym (ap₂ xor (p .0) (p .1) ∙ xor-false (bitAt 8 row j)) ];
+            | inl p ↦ sym (ap₂ xor (p .0) (p .1))
+            | inr p ↦ sym (ap₂ xor (p .0) (p .1) ∙ xor-false (bitAt 8 row j))
+          ];
         }

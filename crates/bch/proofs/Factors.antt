@@ -11,6 +11,7 @@ use lib.Dec.{eqb}
 use lib.ListN.{length, getD, set, replicate, getD-replicate}
 use lib.Seq.{getD-set-same, getD-set-other}
 use borrow.Author.Count.{below-more}
+use Rattle.galois.specs.Ring.{numbers}
 use Rattle.std.proofs.shelf.Tests.{eq-eqb, ne-eqb}
 use Rattle.galois.specs.Cosets.{At, walk, exponent}
 use Rattle.galois.specs.Model.{FieldModel, FieldLaws, size, units, power, sum-of, product-of}
@@ -19,7 +20,7 @@ use Rattle.galois.specs.Rows.{Few, checkCells}
 use Rattle.galois.proofs.Generators.{pow-double}
 use Rattle.galois.proofs.Laws.{power-lt, power-add}
 use Rattle.galois.proofs.Lift.{Element, ops, field2, number, alpha, turn, once, pow-power}
-use Rattle.bch.specs.Steps.{numbers, coefficient}
+use Rattle.bch.specs.Steps.{coefficient}
 use Rattle.bch.proofs.Cells.{rootAt, generated-number}
 use Rattle.bch.proofs.CodeRows.{is-fine}
 use Rattle.bch.proofs.Counts.{units-lt}
@@ -57,9 +58,9 @@ module _ (F : FieldModel) (l : FieldLaws F) where
       below-more (λ k. getD (set product i s) k 0 ≡ factor (numbers F) a (λ j. getD g j 0) k) i
       (λ k lt. let ne : k ≢ i = omega arith in rw getD-set-other (h k lt))
       (let lt : i < length product = omega arith in
-       let ep′ : p ≡ F .mul a (getD g i 0) = ep ∙ ap₂ (F .mul) (mod-eq-of-lt ha) (mod-eq-of-lt (hg i hi)) in
-       let hp : p < size F = subst (λ z. z < size F) (sym ep′) (l .ring .mul-lt a (getD g i 0) ha (hg i hi)) in
-       rw getD-set-same (es ∙ ap₂ (F .add) (mod-eq-of-lt hb ∙ eb) (mod-eq-of-lt hp ∙ ep′)))
+      let ep′ : p ≡ F .mul a (getD g i 0) = ep ∙ ap₂ (F .mul) (mod-eq-of-lt ha) (mod-eq-of-lt (hg i hi)) in
+      let hp : p < size F = subst (λ z. z < size F) (sym ep′) (l .ring .mul-lt a (getD g i 0) ha (hg i hi)) in
+      rw getD-set-same (es ∙ ap₂ (F .add) (mod-eq-of-lt hb ∙ eb) (mod-eq-of-lt hp ∙ ep′)))
 
   pub coefficient-lt : (d i : ℕ) → coefficient F d i < size F
   coefficient-lt d i =

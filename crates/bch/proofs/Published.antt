@@ -16,11 +16,12 @@ use Rattle.galois.proofs.Solve.{var, O, _⊕_, _⊗_, solve, mul-zero}
 use Rattle.galois.proofs.Polynomials.{pow-add, value-cong, value-none, value-add, value-scale, value-split, value-more, value-square, all-none}
 use Rattle.galois.proofs.Cosets.{Fine}
 use Rattle.galois.proofs.Generators.{roots, above, top, vanishes-at, roots-apart, starts-vanish}
+use Rattle.galois.proofs.Least.{Code}
 use Rattle.galois.proofs.Lift.{Element, same, ops, ring2, field2, number, alpha, turn, once}
 use Rattle.bch.specs.Published.{shifted, product, Roots, IsGenerator}
 use Rattle.bch.specs.Steps.{coefficient}
 use Rattle.bch.proofs.Cells.{bitK, bitK-square, bitK-xor, bitK-cond, bitK-once, rowValue, powerSum-value, rootAt, generated-number}
-use Rattle.bch.proofs.CodeRows.{Code, is-fine, bitK-coefficient, from-code}
+use Rattle.bch.proofs.CodeRows.{is-fine, bitK-coefficient, from-code}
 
 pub xor-self : (b : Bool) → xor b b ≡ false
 xor-self true = refl
@@ -118,10 +119,10 @@ module _ (F : FieldModel) (l : FieldLaws F) (t : ℕ) (few : Few t) where
       let p = pow (ops F l) (b d) k in
       value-split R (λ i. bitK F l (shifted k g i)) k (suc r + s) (b d)
       ∙ ap₂ (λ y z. ops F l .add y (ops F l .mul p z))
-        (value-none R (λ i. bitK F l (shifted k g i)) k (b d) (λ i lt. ap (bitK F l) (shifted-low k g i lt)))
-        (value-cong R (λ i. bitK F l (shifted k g (k + i))) (λ i. bitK F l (g i)) (suc r + s) (b d) (λ i _. ap (bitK F l) (shifted-from k g (k + i) (omega arith) ∙ ap g (omega arith)))
-         ∙ value-more R (λ i. bitK F l (g i)) (suc r) s (b d) (λ i le. ap (bitK F l) (g-past i (omega arith)))
-         ∙ g-root d h)
+      (value-none R (λ i. bitK F l (shifted k g i)) k (b d) (λ i lt. ap (bitK F l) (shifted-low k g i lt)))
+      (value-cong R (λ i. bitK F l (shifted k g (k + i))) (λ i. bitK F l (g i)) (suc r + s) (b d) (λ i _. ap (bitK F l) (shifted-from k g (k + i) (omega arith) ∙ ap g (omega arith)))
+      ∙ value-more R (λ i. bitK F l (g i)) (suc r) s (b d) (λ i le. ap (bitK F l) (g-past i (omega arith)))
+      ∙ g-root d h)
       ∙ solve R (p ∷ []) (O ⊕ var 0 ⊗ O) O tt
 
   -- a sum with a multiple of x ^ k g
@@ -130,7 +131,7 @@ module _ (F : FieldModel) (l : FieldLaws F) (t : ℕ) (few : Few t) where
   plus-shifted c a k n x =
       let R = ring2 F l in
       value-cong R (λ j. bitK F l (xor (c j) (cond a (shifted k g j) false))) (λ j. ops F l .add (bitK F l (c j)) (ops F l .mul (bitK F l a) (bitK F l (shifted k g j)))) n x
-        (λ j _. bitK-xor F l (c j) (cond a (shifted k g j) false) ∙ ap (ops F l .add (bitK F l (c j))) (bitK-cond F l a (shifted k g j)))
+      (λ j _. bitK-xor F l (c j) (cond a (shifted k g j) false) ∙ ap (ops F l .add (bitK F l (c j))) (bitK-cond F l a (shifted k g j)))
       ∙ value-add R (λ j. bitK F l (c j)) (λ j. ops F l .mul (bitK F l a) (bitK F l (shifted k g j))) n x
       ∙ ap (ops F l .add (at c n x)) (value-scale R (bitK F l a) (λ j. bitK F l (shifted k g j)) n x)
 
@@ -141,21 +142,25 @@ module _ (F : FieldModel) (l : FieldLaws F) (t : ℕ) (few : Few t) where
   multiple : (k : ℕ) (c : ℕ → Bool) → ((d : ℕ) → d < r → at c (r + k) (b d) ≡ ops F l .o) → Multiple k c
   unfolding product value
   multiple zero c h =
-      let z : r + 0 ≡ r = omega arith in
-      ((λ _. false),
-       λ j lt. bitK-once F l (c j) false
-         (all-none (field2 F l) (λ p. bitK F l (c p)) r (rootAt F l) r (omega arith) (roots-apart (field2 F l) (alpha F l) (units F) (turn F l) (once F l) t r (is-fine F l t few))
-         (λ d u. ap (λ n. at c n (b d)) (sym z) ∙ h d u) j (omega arith)))
+      let z : r + 0 ≡ r = omega arith in (
+        (λ _. false),
+        λ j lt. bitK-once F l (c j) false
+            (all-none (field2 F l) (λ p. bitK F l (c p)) r (rootAt F l) r (omega arith) (roots-apart (field2 F l) (alpha F l) (units F) (turn F l) (once F l) t r (is-fine F l t few))
+            (λ d u. ap (λ n. at c n (b d)) (sym z) ∙ h d u) j (omega arith)),
+      )
   multiple (suc k) c h = up (multiple k less less-root)
     where
       a : Bool
       a = c (r + k)
+
       less : ℕ → Bool
       less j = xor (c j) (cond (c (r + k)) (shifted k g j) false)
+
       less-top : less (r + k) ≡ false
       less-top =
           ap (λ y. xor (c (r + k)) (cond (c (r + k)) y false)) (shifted-from k g (r + k) (omega arith) ∙ ap g (omega arith) ∙ g-top)
           ∙ ap (xor (c (r + k))) (cond-true (c (r + k))) ∙ xor-self (c (r + k))
+
       less-root : (d : ℕ) → d < r → at less (r + k) (b d) ≡ ops F l .o
       less-root d u =
           let R = ring2 F l in
@@ -168,18 +173,21 @@ module _ (F : FieldModel) (l : FieldLaws F) (t : ℕ) (few : Few t) where
           ∙ plus-shifted c (c (r + k)) k (r + suc k) (b d)
           ∙ ap₂ (λ v w. ops F l .add v (ops F l .mul (bitK F l (c (r + k))) w)) (h d u) (ap (λ m. at (shifted k g) m (b d)) y ∙ shifted-root k 0 d u)
           ∙ solve R (bitK F l (c (r + k)) ∷ []) (O ⊕ var 0 ⊗ O) O tt
+
       up : Multiple k less → Multiple (suc k) c
       up w = (put k (c (r + k)) (w .0), whole)
         where
           tie : (j : ℕ) → j < r + suc k → less j ≡ product (w .0) g k j
           tie j lt = elim (cases-eq j (r + k)) [
-              inl e ↦ ap less e ∙ less-top ∙ sym (product-past (w .0) g r g-past k j (omega arith))
-            | inr ne ↦ w .1 j (omega arith) ]
+            | inl e ↦ ap less e ∙ less-top ∙ sym (product-past (w .0) g r g-past k j (omega arith))
+            | inr ne ↦ w .1 j (omega arith)
+          ]
+
           whole : (j : ℕ) → j < r + suc k → c j ≡ product (put k (c (r + k)) (w .0)) g (suc k) j
           whole j lt =
               sym (xor-twice (c j) (cond (c (r + k)) (shifted k g j) false))
               ∙ ap₂ (λ p v. xor p (cond v (shifted k g j) false))
-                (tie j lt ∙ sym (product-cong (put k (c (r + k)) (w .0)) (w .0) g g k j (put-other k (c (r + k)) (w .0)) (λ _. refl))) (sym (put-here k (c (r + k)) (w .0)))
+              (tie j lt ∙ sym (product-cong (put k (c (r + k)) (w .0)) (w .0) g g k j (put-other k (c (r + k)) (w .0)) (λ _. refl))) (sym (put-here k (c (r + k)) (w .0)))
 
   -- the odd powers below 2t give all from 1 to 2t
   all-roots : (c : ℕ → Bool) (n : ℕ) → ((i : ℕ) → i < t → at c n (pow (ops F l) (alpha F l) (suc (i + i))) ≡ ops F l .o)
@@ -191,30 +199,31 @@ module _ (F : FieldModel) (l : FieldLaws F) (t : ℕ) (few : Few t) where
       go : (k : ℕ) × ((j ≡ k + k) ⊎ (j ≡ suc (k + k))) → ((i : ℕ) → i ≤ f → i < t + t → at c n (pow (ops F l) (alpha F l) (suc i)) ≡ ops F l .o)
           → at c n (pow (ops F l) (alpha F l) (suc j)) ≡ ops F l .o
       go p ih =
-          elim (p .1)
-          [ inl q ↦ ap (λ i. at c n (pow (ops F l) (alpha F l) (suc i))) q ∙ h (p .0) (omega arith)
-          | inr q ↦
-              let z : suc j ≡ suc (p .0) + suc (p .0) = omega arith in
-              let x = pow (ops F l) (alpha F l) (suc (p .0)) in
-              ap (λ i. at c n (pow (ops F l) (alpha F l) i)) z ∙ ap (at c n) (pow-add (ring2 F l) (alpha F l) (suc (p .0)) (suc (p .0)))
-              ∙ sym (value-square (ring2 F l) (λ p. bitK F l (c p)) n x (λ i _. bitK-square F l (c i)))
-              ∙ ap (ops F l .mul (at c n x)) (ih (p .0) (omega arith) (omega arith)) ∙ mul-zero (ring2 F l) _ ]
+          elim (p .1) [
+            | inl q ↦ ap (λ i. at c n (pow (ops F l) (alpha F l) (suc i))) q ∙ h (p .0) (omega arith)
+            | inr q ↦
+                let z : suc j ≡ suc (p .0) + suc (p .0) = omega arith in
+                let x = pow (ops F l) (alpha F l) (suc (p .0)) in
+                ap (λ i. at c n (pow (ops F l) (alpha F l) i)) z ∙ ap (at c n) (pow-add (ring2 F l) (alpha F l) (suc (p .0)) (suc (p .0)))
+                ∙ sym (value-square (ring2 F l) (λ p. bitK F l (c p)) n x (λ i _. bitK-square F l (c i)))
+                ∙ ap (ops F l .mul (at c n x)) (ih (p .0) (omega arith) (omega arith)) ∙ mul-zero (ring2 F l) _
+          ]
 
   pub generates : IsGenerator F t g
   generates = record {
     leading = g-top;
     degree = g-past;
     roots = λ j lo hi.
-      let z : suc (j - 1) ≡ j = omega arith in
-      sym (powerSum-value F l j g (suc r))
-      ∙ ap (λ i. at g (suc r) (pow (ops F l) (alpha F l) i) .0) (sym z)
-      ∙ number F l
+        let z : suc (j - 1) ≡ j = omega arith in
+        sym (powerSum-value F l j g (suc r))
+        ∙ ap (λ i. at g (suc r) (pow (ops F l) (alpha F l) i) .0) (sym z)
+        ∙ number F l
         (all-roots g (suc r) (starts-vanish (field2 F l) (alpha F l) (units F) (turn F l) (once F l) t r (is-fine F l t few) (λ p. bitK F l (g p)) (suc r) g-root) (j - 1) (j - 1) (omega arith) (omega arith));
     lowest = λ c k le h i lt.
-      bitK-once F l (c i) false
-      (all-none (field2 F l) (λ p. bitK F l (c p)) k (rootAt F l) r le (roots-apart (field2 F l) (alpha F l) (units F) (turn F l) (once F l) t r (is-fine F l t few))
+        bitK-once F l (c i) false
+        (all-none (field2 F l) (λ p. bitK F l (c p)) k (rootAt F l) r le (roots-apart (field2 F l) (alpha F l) (units F) (turn F l) (once F l) t r (is-fine F l t few))
         (vanishes-at (field2 F l) (alpha F l) (units F) (turn F l) (once F l) t r (is-fine F l t few) (λ p. bitK F l (c p)) k (λ i _. bitK-square F l (c i))
-          (λ i u. same F _ _ (powerSum-value F l (suc (i + i)) c k ∙ h (suc (i + i)) (omega arith) (omega arith)))) i lt);
+        (λ i u. same F _ _ (powerSum-value F l (suc (i + i)) c k ∙ h (suc (i + i)) (omega arith) (omega arith)))) i lt);
   }
 
   -- a code row is a multiple of the generator
@@ -222,4 +231,4 @@ module _ (F : FieldModel) (l : FieldLaws F) (t : ℕ) (few : Few t) where
   code-multiple c code =
       multiple (dataCells (F .m) t) c
       (vanishes-at (field2 F l) (alpha F l) (units F) (turn F l) (once F l) t r (is-fine F l t few) (λ p. bitK F l (c p)) (r + dataCells (F .m) t) (λ i _. bitK-square F l (c i))
-        (from-code F l t few c code))
+      (from-code F l t few c code))

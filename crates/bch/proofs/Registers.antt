@@ -61,7 +61,7 @@ module _ (F : FieldModel) (l : FieldLaws F) where
       let b = cond feed (g % 2 ^ r) 0 in
       ap (bitK F l) (bitOf-xor a b i) ∙ bitK-xor F l (bitOf a i) (bitOf b i)
       ∙ ap₂ (ops F l .add) (double-bits x r i h)
-        (cond-bits feed (g % 2 ^ r) i ∙ ap (λ y. ops F l .mul (bitK F l feed) (bitK F l y)) (bitOf-low g r i h))
+      (cond-bits feed (g % 2 ^ r) i ∙ ap (λ y. ops F l .mul (bitK F l feed) (bitK F l y)) (bitOf-low g r i h))
 
   value-before : (c : ℕ → Element F) (r : ℕ) (x : Element F)
       → value (ops F l) (before (ops F l) c) (suc r) x
@@ -70,7 +70,7 @@ module _ (F : FieldModel) (l : FieldLaws F) where
   value-before c r x =
       value-first (ring2 F l) (before (ops F l) c) r x
       ∙ solve (ring2 F l) (x ∷ value (ops F l) c r x ∷ c r ∷ pow (ops F l) x r ∷ []) (O ⊕ var 0 ⊗ var 1)
-        (var 0 ⊗ (var 1 ⊕ var 2 ⊗ var 3) ⊕ var 2 ⊗ (var 0 ⊗ var 3)) tt
+      (var 0 ⊗ (var 1 ⊕ var 2 ⊗ var 3) ⊕ var 2 ⊗ (var 0 ⊗ var 3)) tt
 
   turned-value : (g r x : ℕ) (d : Bool) (b : Element F) → value (ops F l) (bitsK g) (suc r) b ≡ pow (ops F l) b (suc r)
       → value (ops F l) (bitsK (turned g (suc r) x d)) (suc r) b
@@ -85,7 +85,7 @@ module _ (F : FieldModel) (l : FieldLaws F) where
       ∙ value-add R (before (ops F l) (bitsK x)) (λ i. ops F l .mul feed (bitsK g i)) (suc r) b
       ∙ ap₂ (ops F l .add) (value-before (bitsK x) r b) (value-scale R feed (bitsK g) (suc r) b ∙ ap (ops F l .mul feed) hg)
       ∙ ap (λ y. ops F l .add (ops F l .add (ops F l .mul b v) (ops F l .mul (bitsK x r) p)) (ops F l .mul y p))
-        (ap (λ k. bitK F l (xor (bitOf x k) d)) z ∙ bitK-xor F l (bitOf x r) d)
+      (ap (λ k. bitK F l (xor (bitOf x k) d)) z ∙ bitK-xor F l (bitOf x r) d)
       ∙ solve R (b ∷ v ∷ bitsK x r ∷ p ∷ bitK F l d ∷ []) (var 0 ⊗ var 1 ⊕ var 2 ⊗ var 3 ⊕ (var 2 ⊕ var 4) ⊗ var 3) (var 0 ⊗ var 1 ⊕ var 4 ⊗ var 3) tt
 
   -- at a root b of the generator the register has the value of the bits so far, times b ^ r
@@ -105,6 +105,6 @@ module _ (F : FieldModel) (l : FieldLaws F) where
       ∙ ap (λ y. ops F l .add (ops F l .mul b y) (ops F l .mul (bitK F l (c s)) p)) (register-value g r c b hg q (suc s))
       ∙ solve R (b ∷ p ∷ w ∷ bitK F l (c s) ∷ []) (var 0 ⊗ (var 1 ⊗ var 2) ⊕ var 3 ⊗ var 1) (var 1 ⊗ (var 3 ⊕ var 0 ⊗ var 2)) tt
       ∙ sym (ap (ops F l .mul p)
-        (value-first R (λ i. bitK F l (c (s + i))) q b
-        ∙ ap₂ (λ y v. ops F l .add y (ops F l .mul b v)) (ap (λ k. bitK F l (c k)) z)
-          (value-cong R (λ i. bitK F l (c (s + suc i))) (λ i. bitK F l (c (suc s + i))) q b (λ i h. ap (λ k. bitK F l (c k)) (omega arith)))))
+      (value-first R (λ i. bitK F l (c (s + i))) q b
+      ∙ ap₂ (λ y v. ops F l .add y (ops F l .mul b v)) (ap (λ k. bitK F l (c k)) z)
+      (value-cong R (λ i. bitK F l (c (s + suc i))) (λ i. bitK F l (c (suc s + i))) q b (λ i h. ap (λ k. bitK F l (c k)) (omega arith)))))

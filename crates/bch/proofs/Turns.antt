@@ -49,9 +49,11 @@ module _ (g r : ℕ) (c : ℕ → Bool) (s k x : ℕ) (few : r ≤ 24) (pos : 0 
   unfolding register
   next y ey =
       let z : suc (k - s) ≡ k - (s - 1) = omega arith in
-      let w : s ≡ suc (s - 1) = omega arith in
-      (omega arith, subst (λ z. z < 2 ^ r) (sym ey) (turned-lt g r x (c (s - 1))),
-       ey ∙ ap (λ y. turned g r y (c (s - 1))) (ex ∙ ap (λ n. register g r c n (k - s)) w) ∙ ap (register g r c (s - 1)) z)
+      let w : s ≡ suc (s - 1) = omega arith in (
+        omega arith,
+        subst (λ z. z < 2 ^ r) (sym ey) (turned-lt g r x (c (s - 1))),
+        ey ∙ ap (λ y. turned g r y (c (s - 1))) (ex ∙ ap (λ n. register g r c n (k - s)) w) ∙ ap (register g r c (s - 1)) z,
+      )
 
   pub register-set : not (Bool·beq (bitOf x (r - 1)) (c (s - 1))) ≡ true → Next g r c s k (bitXor (bitAnd (2 * x) (mask r)) (bitAnd g (mask r)))
   register-set e = next _ (turned-set g r x (c (s - 1)) few (sym (unequal (bitOf x (r - 1)) (c (s - 1))) ∙ e))

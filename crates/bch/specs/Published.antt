@@ -38,5 +38,5 @@ pub record ByDivision (F : FieldModel) (t : ℕ) (d row : List Bool) : Type 0 wh
   pub generates : IsGenerator F t generator
   pub smaller : (j : ℕ) → checkCells (F .m) t ≤ j → remainder j ≡ false
   pub divides : (j : ℕ) → j < units F
-    → shifted (checkCells (F .m) t) (cellOf d) j ≡ xor (product quotient generator (dataCells (F .m) t) j) (remainder j)
+      → shifted (checkCells (F .m) t) (cellOf d) j ≡ xor (product quotient generator (dataCells (F .m) t) j) (remainder j)
   pub sum : (j : ℕ) → j < units F → cellOf row j ≡ xor (shifted (checkCells (F .m) t) (cellOf d) j) (remainder j)

@@ -8,11 +8,7 @@ use Rattle.bits.specs.Bits.{xor, bitOf, bitAt}
 use Rattle.galois.specs.Cosets.{exponent}
 use Rattle.galois.specs.Model.{FieldModel, units, power}
 use Rattle.galois.specs.Polynomials.{generated}
-use Rattle.galois.specs.Ring.{Ops}
-
--- the operations of a field, at numbers
-abbrev pub numbers : FieldModel → Ops ℕ
-numbers F = record { o = 0; e = 1; add = F .add; mul = F .mul }
+use Rattle.galois.specs.Ring.{numbers}
 
 -- coefficient i of the product of x + alpha ^ j over the first d exponents j of the cosets
 abbrev pub coefficient : FieldModel → ℕ → ℕ → ℕ

@@ -7,7 +7,6 @@ ghost use Rattle.std.specs.Results.{isOk};
 ghost use Rattle.bits.specs.Bits.{bitAt};
 ghost use Rattle.bch.specs.Calls.{Encoded, Extracted};
 ghost use Rattle.bch.specs.Steps.{register, laid};
-
 use crate::generator::generator;
 use crate::sizes::check_cells;
 use crate::sizes::check_strength;

@@ -6,10 +6,10 @@ ghost use lib.ListN.{getD};
 ghost use Rattle.bits.specs.Bits.{bitOf};
 ghost use Rattle.galois.specs.Model.{size};
 ghost use Rattle.galois.specs.Polynomials.{factor};
+ghost use Rattle.galois.specs.Ring.{numbers};
 ghost use Rattle.galois.specs.Rows.{Few, checkCells};
 ghost use Rattle.bch.specs.Calls.{Generated};
-ghost use Rattle.bch.specs.Steps.{numbers, coefficient};
-
+ghost use Rattle.bch.specs.Steps.{coefficient};
 use crate::sizes::check_cells;
 use crate::sizes::check_strength;
 use crate::sizes::row_cells;

@@ -5,7 +5,6 @@ ghost use Rattle.galois.specs.Rows.{Few, checkCells};
 ghost use Rattle.refusal.specs.Checks.{Checked};
 ghost use Rattle.refusal.specs.declared.Refusal.the-variants.{Figures};
 ghost use Rattle.bch.specs.Calls.{Counted};
-
 use field::Field;
 use refusal::Refusal;
 

@@ -84,12 +84,12 @@ tested n t r h =
       below = λ i l. ltb→lt _ _ (every-at (λ d. ltb (exponent n d) n) r (d .0) i l);
       apart = λ i j l k q. T-not _ (every-at (λ d. not (eqb (exponent n d) (exponent n j))) j (every-at (λ f. every (λ d. not (eqb (exponent n d) (exponent n f))) f) r (e .0) j k) i l) (subst T (sym (eq-eqb (exponent n i) (exponent n j) q)) tt);
       halved = λ j k.
-        let w = has-at (λ d. eqb ((exponent n d + exponent n d) % n) (exponent n j)) r (every-at (λ f. has (λ d. eqb ((exponent n d + exponent n d) % n) (exponent n f)) r) r (f .0) j k) in
-        (w .0, w .1, eqb→eq _ _ (w .2));
+          let w = has-at (λ d. eqb ((exponent n d + exponent n d) % n) (exponent n j)) r (every-at (λ f. has (λ d. eqb ((exponent n d + exponent n d) % n) (exponent n f)) r) r (f .0) j k) in
+          (w .0, w .1, eqb→eq _ _ (w .2));
       within = λ i l. ltb→lt _ _ (every-at (λ d. ltb (walk n d .first) (t + t)) r (g .0) i l);
       starts = λ i l.
-        let w = has-at (λ d. eqb (exponent n d) (suc (i + i))) r (every-at (λ i. has (λ d. eqb (exponent n d) (suc (i + i))) r) t (g .1) i l) in
-        (w .0, w .1, eqb→eq _ _ (w .2));
+          let w = has-at (λ d. eqb (exponent n d) (suc (i + i))) r (every-at (λ i. has (λ d. eqb (exponent n d) (suc (i + i))) r) t (g .1) i l) in
+          (w .0, w .1, eqb→eq _ _ (w .2));
     }
 
 -- what holds at each of the three
@@ -97,8 +97,11 @@ pub each-few : (Q : ℕ → Type 0) → Q 1 → Q 2 → Q 3 → (t : ℕ) → Fe
 each-few Q a b c t few =
     let lo : 1 ≤ t = few .0 in
     let hi : t ≤ 3 = few .1 in
-    elim (cases-eq t 1) [ inl p ↦ subst Q (sym p) a | inr n1 ↦
-    elim (cases-eq t 2) [ inl p ↦ subst Q (sym p) b | inr n2 ↦ let e : 3 ≡ t = omega arith in subst Q e c ] ]
+    elim (cases-eq t 1) [
+      | inl p ↦ subst Q (sym p) a
+      | inr n1 ↦
+          elim (cases-eq t 2) [ inl p ↦ subst Q (sym p) b | inr n2 ↦ let e : 3 ≡ t = omega arith in subst Q e c ]
+    ]
 
 abbrev Passes : ℕ → ℕ → Type 0
 Passes m t = T (test (2 ^ m - 1) t (checkCells m t))
@@ -125,8 +128,10 @@ first-odd n (suc d) =
   where
     up : At
     up = record { first = walk n d .first + 2; here = walk n d .first + 2 }
+
     down : At
     down = record { first = walk n d .first; here = (walk n d .here + walk n d .here) % n }
+
     go : (b : Bool) → (s : ℕ) × (walk n d .first ≡ suc (s + s)) → (s : ℕ) × (cond b up down .first ≡ suc (s + s))
     go true w = (suc (w .0), (let h = w .1 in omega arith))
     go false w = w

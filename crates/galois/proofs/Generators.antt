@@ -49,8 +49,9 @@ module _ {K : Type 0} {P : Ops K} (R : Ring2 P) where
   roots b (suc d) i h =
       times (b d) (generated P b d) d (b i) (above b d (suc d) (omega arith))
       ∙ elim (cases-eq i d) [
-          inl q ↦ ap (λ k. mul (add (b k) (b d)) (value P (generated P b d) (suc d) (b i))) q ∙ ap (λ y. mul y (value P (generated P b d) (suc d) (b i))) (R .add-self (b d)) ∙ zero-mul R _
-        | inr ne ↦ ap (mul (add (b i) (b d))) (roots b d i (omega arith)) ∙ mul-zero R _ ]
+        | inl q ↦ ap (λ k. mul (add (b k) (b d)) (value P (generated P b d) (suc d) (b i))) q ∙ ap (λ y. mul y (value P (generated P b d) (suc d) (b i))) (R .add-self (b d)) ∙ zero-mul R _
+        | inr ne ↦ ap (mul (add (b i) (b d))) (roots b d i (omega arith)) ∙ mul-zero R _
+      ]
 
 module _ {K : Type 0} {P : Ops K} {is0 : K → Bool} (F : Field2 P is0) (alpha : K) (n : ℕ)
     (turn : pow P alpha n ≡ P .e) (once : (p q : ℕ) → p < n → q < n → pow P alpha p ≡ pow P alpha q → p ≡ q) where
@@ -102,9 +103,10 @@ module _ {K : Type 0} {P : Ops K} {is0 : K → Bool} (F : Field2 P is0) (alpha :
     pub generator-square : (i : ℕ) → mul (g i) (g i) ≡ g i
     generator-square i =
         elim (cases-order i r) [
-          inl q ↦ ap (λ k. mul (g k) (g k)) q ∙ ap (λ y. mul y y) (top ring root r) ∙ one-mul ring e ∙ sym (top ring root r) ∙ ap g (sym q)
-        | inr (inl lt) ↦ sym (equal-of-sum ring (g i) (mul (g i) (g i)) (all-none F gap r root r (omega arith) roots-apart gap-value i lt))
-        | inr (inr gt) ↦ ap (λ y. mul y y) (above ring root r i gt) ∙ mul-zero ring o ∙ sym (above ring root r i gt) ]
+          | inl q ↦ ap (λ k. mul (g k) (g k)) q ∙ ap (λ y. mul y y) (top ring root r) ∙ one-mul ring e ∙ sym (top ring root r) ∙ ap g (sym q)
+          | inr (inl lt) ↦ sym (equal-of-sum ring (g i) (mul (g i) (g i)) (all-none F gap r root r (omega arith) roots-apart gap-value i lt))
+          | inr (inr gt) ↦ ap (λ y. mul y y) (above ring root r i gt) ∙ mul-zero ring o ∙ sym (above ring root r i gt)
+        ]
 
     pub generator-bit : (i : ℕ) → (g i ≡ o) ⊎ (g i ≡ e)
     generator-bit i = bit-of F (g i) (generator-square i)
@@ -129,10 +131,12 @@ module _ {K : Type 0} {P : Ops K} {is0 : K → Bool} (F : Field2 P is0) (alpha :
       where
         up : At
         up = record { first = walk n d .first + 2; here = walk n d .first + 2 }
+
         down : At
         down = record { first = walk n d .first; here = (walk n d .here + walk n d .here) % n }
+
         go : (b : Bool) → value P c k (root d) ≡ o → (s : ℕ) × (cond b up down .first ≡ suc (s + s)) → cond b up down .first < t + t
-          → value P c k (pow P alpha (cond b up down .here)) ≡ o
+            → value P c k (pow P alpha (cond b up down .here)) ≡ o
         go true ih w lt = ap (λ j. value P c k (pow P alpha j)) (w .1) ∙ h (w .0) (let q = w .1 in omega arith)
         go false ih w lt =
             ap (value P c k) (pow-double (walk n d .here)) ∙ sym (value-square ring c k (root d) bits)
@@ -153,7 +157,7 @@ module _ {K : Type 0} {P : Ops K} {is0 : K → Bool} (F : Field2 P is0) (alpha :
         zero-at j h =
             solve ring (value P (λ i. add (c i) (d i)) r (root j) ∷ pow P (root j) r ∷ []) (var 0) (var 0 ⊕ var 1 ⊗ O) tt
             ∙ ap (λ y. add (value P (λ i. add (c i) (d i)) r (root j)) (mul (pow P (root j) r) y))
-              (sym (value-none ring (λ i. add (c (r + i)) (d (r + i))) k (root j) (λ i u. ap (λ y. add y (d (r + i))) (same (r + i) (omega arith) (omega arith)) ∙ ring .add-self _)))
+            (sym (value-none ring (λ i. add (c (r + i)) (d (r + i))) k (root j) (λ i u. ap (λ y. add y (d (r + i))) (same (r + i) (omega arith) (omega arith)) ∙ ring .add-self _)))
             ∙ sym (value-split ring (λ i. add (c i) (d i)) r k (root j))
             ∙ value-add ring c d (r + k) (root j)
             ∙ ap₂ add (vanishes-at c (r + k) bc hc j h) (vanishes-at d (r + k) bd hd j h) ∙ ring .add-self o

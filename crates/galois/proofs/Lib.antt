@@ -15,3 +15,6 @@ pub mod PowerSums
 pub mod Polynomials
 pub mod Cosets
 pub mod Generators
+pub mod Distances
+pub mod Differ
+pub mod Least

@@ -126,9 +126,10 @@ module _ {K : Type 0} {P : Ops K} (R : Ring2 P) where
   distinct-tabulate : (c : ℕ → K) (k : ℕ) → ((i j : ℕ) → i < j → j < k → c i ≢ c j) → Distinct (λ x. x) (tabulate c k)
   unfolding tabulate
   distinct-tabulate c zero h = tt
-  distinct-tabulate c (suc k) h =
-      (all-tabulate (λ y. c 0 ≢ y) (λ i. c (suc i)) k (λ i l. h 0 (suc i) (omega arith) (omega arith)),
-       distinct-tabulate (λ i. c (suc i)) k (λ i j l m. h (suc i) (suc j) (omega arith) (omega arith)))
+  distinct-tabulate c (suc k) h = (
+    all-tabulate (λ y. c 0 ≢ y) (λ i. c (suc i)) k (λ i l. h 0 (suc i) (omega arith) (omega arith)),
+    distinct-tabulate (λ i. c (suc i)) k (λ i j l m. h (suc i) (suc j) (omega arith) (omega arith)),
+  )
 
 module _ {K : Type 0} {P : Ops K} {is0 : K → Bool} (F : Field2 P is0) where
   open Ops P using (o, e, add, mul)
@@ -146,5 +147,6 @@ module _ {K : Type 0} {P : Ops K} {is0 : K → Bool} (F : Field2 P is0) where
   pub bit-of : (c : K) → mul c c ≡ c → (c ≡ o) ⊎ (c ≡ e)
   bit-of c h =
       elim (no-divisors c (add c e) (solve ring (c ∷ []) (var 0 ⊗ (var 0 ⊕ I)) (var 0 ⊗ var 0 ⊕ var 0) tt ∙ ap (λ y. add y c) h ∙ ring .add-self c)) [
-        inl p ↦ inl p
-      | inr q ↦ inr (equal-of-sum ring c e q) ]
+        | inl p ↦ inl p
+        | inr q ↦ inr (equal-of-sum ring c e q)
+      ]

@@ -7,6 +7,7 @@ use mathlib.Core.List.{List, [], _∷_}
 use Prim.Native.Nat.{ℕ, zero, suc}
 use lib.Dec.{T}
 use lib.ListN.{length, getD}
+use Rattle.bits.specs.Bits.{xor}
 use Rattle.galois.specs.Ring.{Ops, Ring2}
 
 infixl 50 _⊕_
@@ -29,11 +30,6 @@ scale times a (b ∷ q) = times a b ∷ scale times a q
 abbrev pub mulL : {A : Type 0} (plus times : A → A → A) (z : A) → List A → List A → List A
 mulL plus times z [] q = []
 mulL plus times z (a ∷ p) q = addL plus (scale times a q) (z ∷ mulL plus times z p q)
-
-abbrev pub xor : Bool → Bool → Bool
-xor true true = false
-xor true false = true
-xor false b = b
 
 abbrev pub and : Bool → Bool → Bool
 and true b = b

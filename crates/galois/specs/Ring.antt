@@ -4,6 +4,7 @@ use mathlib.Core.Path.{_≡_}
 use mathlib.Core.Bool.{Bool, true}
 use mathlib.Core.Logic.{_≢_, _⊎_}
 use Prim.Native.Nat.{ℕ, zero, suc}
+use Rattle.galois.specs.Model.{FieldModel}
 
 -- zero, one, sum and product
 pub record Ops (K : Type 0) : Type 0 where
@@ -34,3 +35,7 @@ pub record Field2 {K : Type 0} (P : Ops K) (is0 : K → Bool) : Type 0 where
 abbrev pub pow : {K : Type 0} (P : Ops K) → K → ℕ → K
 pow P x zero = P .e
 pow P x (suc n) = P .mul x (pow P x n)
+
+-- the operations of a field, at numbers
+abbrev pub numbers : FieldModel → Ops ℕ
+numbers F = record { o = 0; e = 1; add = F .add; mul = F .mul }

@@ -1,5 +1,6 @@
 -- Rows of cells, and the binary primitive BCH code over a field: which rows are code rows, and how far rows are apart.
 use mathlib.Core.Path.{_≡_}
+use mathlib.Core.Logic.{_≢_}
 use mathlib.Core.Bool.{Bool, true, false, cond}
 use mathlib.Core.List.{List, [], _∷_}
 use Prim.Native.Nat.{ℕ, zero, suc, _+_, _-_, _*_, _^_, _≤_, _<_}
@@ -69,13 +70,20 @@ pub record Systematic (F : FieldModel) (t : ℕ) (d row : List Bool) : Type 0 wh
   pub holds : dataOf F t row ≡ d
   pub only : (other : List Bool) → CodeRow F t other → dataOf F t other ≡ d → other ≡ row
 
--- c is a code row within t positions of a row; there is at most one
+-- c is a code row within t positions of a row
 pub record Near (F : FieldModel) (t : ℕ) (row c : List Bool) : Type 0 where
   pub code : CodeRow F t c
   pub close : distance row c ≤ t
 
--- two code rows whose distances from one row are together at most 2t are equal; so at most one code row is within t of any row, and
--- different code rows differ in at least 2t + 1 positions
+-- two code rows whose distances from one row are together at most 2t are equal
 abbrev pub LeastDistance : FieldModel → ℕ → Type 0
 LeastDistance F t =
     (row c d : List Bool) → length row ≡ units F → CodeRow F t c → CodeRow F t d → distance row c + distance row d ≤ t + t → c ≡ d
+
+-- how far code rows lie apart
+pub record RowsApart (F : FieldModel) (t : ℕ) : Type 0 where
+  pub least : LeastDistance F t
+  -- different code rows differ in at least 2t + 1 positions
+  pub apart : (c d : List Bool) → CodeRow F t c → CodeRow F t d → c ≢ d → 2 * t + 1 ≤ distance c d
+  -- at most one code row lies within t positions of a row
+  pub one-near : (row c d : List Bool) → Near F t row c → Near F t row d → c ≡ d

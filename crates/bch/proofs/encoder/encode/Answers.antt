@@ -10,9 +10,9 @@ pub returns-in-Break-check-buffer : need.returns-in-Break-check-buffer
 returns-in-Break-check-buffer g c =
     let p = err-from-errBy (c .from-residual-in-Break-check-buffer .result) (c .from-residual-in-Break-check-buffer .ensures .1) in
     encode-refused (g .F·Field .model (c .args .f .now)) (g .F·Field .lawful (c .args .f .now)) (c .args .t) (c .in-Continue-check-strength .ensures tt)
-      (c .row-cells-n .result) (c .check-cells-r .result) (c .row-cells-n .ensures) (c .check-cells-r .ensures)
-      (c .args .«data» .now) (c .args .row .now) (c .from-residual-in-Break-check-buffer .result) (c .in-Break-check-buffer .field-0 .0) (p .1 ∙ ap Err (p .2))
-      (c .if-row-n .left) (c .in-Break-check-buffer .ensures tt)
+    (c .row-cells-n .result) (c .check-cells-r .result) (c .row-cells-n .ensures) (c .check-cells-r .ensures)
+    (c .args .«data» .now) (c .args .row .now) (c .from-residual-in-Break-check-buffer .result) (c .in-Break-check-buffer .field-0 .0) (p .1 ∙ ap Err (p .2))
+    (c .if-row-n .left) (c .in-Break-check-buffer .ensures tt)
 
 pub remainder-check-requires : need.remainder-check-requires
 remainder-check-requires g c κs =
@@ -39,6 +39,6 @@ lay-requires g c κs =
 pub returns : need.returns
 returns g c =
     encode-done (g .F·Field .model (c .args .f .now)) (g .F·Field .lawful (c .args .f .now)) (c .args .t) (c .in-Continue-check-strength .ensures tt)
-      (c .row-cells-n .result) (c .check-cells-r .result) (c .row-cells-n .ensures) (c .check-cells-r .ensures)
-      (c .args .«data» .now) (c .args .row .now) (c .lay .last .row) (c .generator .result) (c .remainder-check .result) (c .lay .result) (c .lay .ensures .done)
-      (c .if-row-n .left) (c .lay .kept .row) (c .in-Continue-check-buffer .ensures tt) (c .generator .ensures .bits) (c .remainder-check .ensures) (c .lay .ensures .cells)
+    (c .row-cells-n .result) (c .check-cells-r .result) (c .row-cells-n .ensures) (c .check-cells-r .ensures)
+    (c .args .«data» .now) (c .args .row .now) (c .lay .last .row) (c .generator .result) (c .remainder-check .result) (c .lay .result) (c .lay .ensures .done)
+    (c .if-row-n .left) (c .lay .kept .row) (c .in-Continue-check-buffer .ensures tt) (c .generator .ensures .bits) (c .remainder-check .ensures) (c .lay .ensures .cells)

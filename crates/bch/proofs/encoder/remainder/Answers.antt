@@ -11,10 +11,10 @@ pub loop-s-again-then-top-data : need.loop-s-again-then-top-data
 loop-s-again-then-top-data c =
     let l = c .loop-s in
     register-set (c .args .g) (c .args .r) (bitAt 8 (c .args .«data» .now)) (l .s) (c .args .k) (l .all) (c .pre .0 .1) (c .loop-s-test .taken) (l .inv .0) (l .inv .2)
-      (c .if-top-data .taken)
+    (c .if-top-data .taken)
 
 pub loop-s-again : need.loop-s-again
 loop-s-again c =
     let l = c .loop-s in
     register-clear (c .args .g) (c .args .r) (bitAt 8 (c .args .«data» .now)) (l .s) (c .args .k) (l .all) (c .pre .0 .1) (c .loop-s-test .taken) (l .inv .0) (l .inv .2)
-      (c .if-top-data .left)
+    (c .if-top-data .left)

@@ -1,9 +1,9 @@
 use mathlib.Core.Path.{_≡_}
 use Prim.Native.Nat.{ℕ, _<_}
 use lib.ListN.{length, getD}
+use Rattle.galois.specs.Ring.{numbers}
 use Rattle.galois.specs.Model.{size}
 use Rattle.galois.specs.Polynomials.{before, factor}
-use Rattle.bch.specs.Steps.{numbers}
 use Rattle.bch.proofs.generator.times_factor.Given as given
 
 abbrev pub Inv-loop-i : given.InvT-loop-i

@@ -1,0 +1,11 @@
+pub mod Within
+pub mod Shown
+pub mod Classed
+pub mod Products
+pub mod Located
+pub mod Tracks
+pub mod StepSearch
+pub mod RootSearch
+pub mod Computed
+pub mod Turning
+pub mod Zeros
