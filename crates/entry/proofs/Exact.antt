@@ -6,7 +6,7 @@ use native.Mathlib.Nat.{mul-assoc, mul-le-mul-right, lt-of-le-of-lt, le-trans}
 use native.Mathlib.Omega.{arith}
 use lib.Dec.{T, leb, lit<, lit≤}
 use lib.IntN.{ℤ, pos, negsuc, natAbs, _*ℤ_}
-use borrow.Author.Tests.{le-leb}
+use borrow.Author.Tests.{le-leb, lt-leb}
 use lib.Ieee.{Float, nan, inf, fin, binary64, up, down, div, round, ofInt}
 use lib.Ieee.Fits.{down-pos}
 use lib.Ieee.Exact.{HasValue, round-exact}
@@ -70,3 +70,11 @@ way-back (fin s m e) z h v =
     let l : m * up e ≤ 500 * down e = omega (arith, v .1) in
     ap (λ (x : Bool). cond x (Ok (nearest (pos 64 *ℤ signed s (m * up e)) (down e))) (Err Value)) (le-leb _ _ l)
     ∙ ap Ok (nearest-signed s (m * up e) (down e) (down-pos e) ∙ (λ i. signed (v .0 i) (whole-rounded (64 * (m * up e)) (down e) (natAbs z) (down-pos e) (omega (arith, v .1)) i)) ∙ signed-back z)
+
+pub past-limit : (v : Float) (z : ℤ) → 32000 < natAbs z → SixtyFourths v z → entryOf v ≡ Err Value
+past-limit nan z h v = absurd v
+past-limit (inf s) z h v = absurd v
+past-limit (fin s m e) z h v =
+    let k : 32001 * down e ≤ natAbs z * down e = mul-le-mul-right (down e) h in
+    let l : 500 * down e < m * up e = omega (arith, v .1, down-pos e) in
+    ap (λ (x : Bool). cond x (Ok (nearest (pos 64 *ℤ signed s (m * up e)) (down e))) (Err Value)) (lt-leb _ _ l)

@@ -1,9 +1,10 @@
 //! Values in arcseconds, and the entries that stand for them.
 ghost use mathlib.Core.Path.{_≡_};
-ghost use Prim.Native.Nat.{_≤_};
+ghost use Prim.Native.Nat.{_<_, _≤_};
 ghost use lib.IntN.{ℤ, natAbs};
 ghost use Rattle.entry.specs.Values.{SixtyFourths, Represents, entryOf};
-ghost use Rattle.std.specs.declared.result.Result.the-variants.{Ok};
+ghost use Rattle.refusal.specs.declared.Refusal.the-variants.{Value};
+ghost use Rattle.std.specs.declared.result.Result.the-variants.{Ok, Err};
 use crate::rounding::nearest_float;
 use refusal::Refusal;
 use std::num::saturating_f64_to_i16;
@@ -29,10 +30,11 @@ pub fn entry_of(value: f64) -> Result<i16, Refusal>
     }
 }
 
-/// The value of an entry in arcseconds, exactly. For an entry from −32,000 to 32,000 `entry_of` gives the entry back.
+/// The value of an entry in arcseconds, exactly. `entry_of` gives an entry from −32,000 to 32,000 back, and refuses the others.
 pub fn arcseconds(entry: i16) -> f64
     ensures value { λ r. ⌜ SixtyFourths r entry ⌝ }
     ensures back { λ r. ⌜ (natAbs entry ≤ 32000 → entryOf r ≡ Ok entry) ⌝ }
+    ensures beyond { λ r. ⌜ (32000 < natAbs entry → entryOf r ≡ Err Value) ⌝ }
 {
     f64::from(entry) / UNITS
 }
