@@ -1,10 +1,10 @@
 -- What an entry means: the law of `entryOf`, the float of an entry, and the way back.
 use mathlib.Core.Path.{_≡_, refl, sym, ap, _∙_, subst}
 use mathlib.Core.Bool.{Bool, true, false, cond, true≢false, false≢true}
-use Prim.Native.Nat.{ℕ, zero, suc, _+_, _-_, _*_, _^_, _≤_, _<_}
+use Prim.Native.Nat.{ℕ, suc, _*_, _^_, _≤_, _<_}
 use native.Mathlib.Nat.{mul-assoc, mul-le-mul-right, lt-of-le-of-lt, le-trans}
 use native.Mathlib.Omega.{arith}
-use lib.Dec.{T, leb, lit<, lit≤}
+use lib.Dec.{lit<, lit≤}
 use lib.IntN.{ℤ, pos, negsuc, natAbs, _*ℤ_}
 use borrow.Author.Tests.{le-leb, lt-leb}
 use lib.Ieee.{Float, nan, inf, fin, binary64, up, down, div, round, ofInt}
@@ -14,7 +14,7 @@ use lib.Ieee.Scale.{round-same}
 use lib.Ieee.Back.{round-whole}
 use Rattle.std.specs.declared.result.Result.the-variants.{Ok, Err}
 use Rattle.refusal.specs.declared.Refusal.the-variants.{Value}
-use Rattle.entry.specs.Rounding.{rounded, nearest, Rounds}
+use Rattle.entry.specs.Rounding.{nearest}
 use Rattle.entry.specs.Values.{signed, isNegative, withinLimits, numerator, denominator, entryOf, SixtyFourths, Represents}
 use Rattle.entry.proofs.Law.{whole-rounded, rounds}
 use Rattle.entry.proofs.Scaled.{nearest-signed}

@@ -1,9 +1,9 @@
 -- `rounded` and `nearest` obey the law of rounding, and the few facts of them that the other proofs use.
-use mathlib.Core.Path.{_≡_, refl, sym, ap, _∙_, subst}
+use mathlib.Core.Path.{_≡_, refl, ap}
 use Prim.Native.Nat.{ℕ, zero, suc, _+_, _*_, _≤_, _<_}
 use native.Mathlib.Nat.{div-add-mod', mod-lt, div-lt-iff-lt-mul, div-eq-of-lt-le, le-of-suc-le-suc, le-antisymm, mul-le-mul-left, lt-of-mul-lt-mul-left}
 use native.Mathlib.Omega.{arith}
-use lib.IntN.{ℤ, pos, negsuc, negℤ, natAbs, _-ℤ_, _*ℤ_}
+use lib.IntN.{ℤ, pos, negsuc, negℤ, natAbs, _*ℤ_}
 use lib.Ieee.Nearest.{div-same}
 use borrow.Author.Differences.{ints}
 use Rattle.entry.specs.Rounding.{rounded, nearest, WithinHalf, HalfAway, Rounds}

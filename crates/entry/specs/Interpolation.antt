@@ -1,11 +1,10 @@
 -- The look-up between two entries: where an angle lies in a table, which entry is next, and what stands between the two.
-use mathlib.Core.Bool.{Bool, true, false, cond}
-use Prim.Native.Nat.{ℕ, _+_, _*_, _/_, _%_}
+use mathlib.Core.Bool.{cond}
+use Prim.Native.Nat.{ℕ, _+_}
 use lib.Dec.{ltb}
 use lib.IntN.{ℤ, pos, _+ℤ_, _-ℤ_, _*ℤ_}
 use lib.Signed.{_≤ℤ_}
 use Rattle.std.specs.Numbers.{minZ, maxZ}
-use Rattle.entry.specs.Rounding.{nearest}
 
 -- The index of the entry after the one at i, of `entries` in all: the last entry is its own next. This line alone says which entry is next.
 abbrev pub nextIndex : ℕ → ℕ → ℕ

@@ -1,7 +1,7 @@
 -- Values in arcseconds, as floats, and the entries that stand for them: whole numbers of 1/64 arcsecond.
 use mathlib.Core.Path.{_≡_}
 use mathlib.Core.Bool.{Bool, true, false, cond}
-use Prim.Native.Nat.{ℕ, _*_, _≤_}
+use Prim.Native.Nat.{ℕ, _*_}
 use lib.Dec.{leb}
 use lib.IntN.{ℤ, pos, negsuc, negℤ, natAbs, _*ℤ_}
 use lib.Ieee.{Float, nan, inf, fin, up, down}

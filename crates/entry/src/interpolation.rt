@@ -12,7 +12,7 @@ pub struct Position {
     pub fraction: u16,
 }
 
-/// Where `angle`, in 65,536ths of a turn of the worm, lies in a table of so many entries.
+/// Where `angle`, in 65,536ths of a turn of the worm, lies in a table of so many entries. With no entries it is at 0.
 pub fn locate(angle: u16, entries: u16) -> Position
     ensures index { λ r. ⌜ r .index ≡ angle * entries / 65536 ⌝ }
     ensures fraction { λ r. ⌜ r .fraction ≡ angle * entries % 65536 ⌝ }

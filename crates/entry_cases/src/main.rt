@@ -10,60 +10,49 @@ use entry::to_bytes;
 use std::io;
 
 fn main(rt: LibcRuntime) -> io::Result<()> {
-    halves(&rt)?;
-    limits(&rt)?;
-    look_ups(&rt)?;
+    values(&rt)?;
+    look_ups(&rt, &[0, 1])?;
+    look_ups(&rt, &[0, -1])?;
+    look_ups(&rt, &[-32_768, 32_767, 12])?;
     bytes(&rt)?;
     way_back(&rt)
 }
 
-/// Values whose 64-fold lies at a half, or just below one.
-fn halves(rt: &LibcRuntime) -> io::Result<()> {
-    show_entry(rt, "1/128", 1.0 / 128.0)?;
-    show_entry(rt, "-1/128", -1.0 / 128.0)?;
-    show_entry(rt, "3/128", 3.0 / 128.0)?;
-    show_entry(rt, "-5/128", -5.0 / 128.0)?;
-    show_entry(rt, "just below 1/128", 0.49999999999999994 / 64.0)?;
-    show_entry(rt, "just above -1/128", -0.49999999999999994 / 64.0)?;
-    show_entry(rt, "one third", 1.0 / 3.0)
-}
-
-/// Values at the limits and beyond them.
-fn limits(rt: &LibcRuntime) -> io::Result<()> {
-    show_entry(rt, "500", 500.0)?;
-    show_entry(rt, "-500", -500.0)?;
-    show_entry(rt, "next above 500", 500.0_f64.next_up())?;
-    show_entry(rt, "next below -500", (-500.0_f64).next_down())?;
-    show_entry(rt, "not a number", f64::NAN)?;
-    show_entry(rt, "infinity", f64::INFINITY)?;
-    show_entry(rt, "-infinity", f64::NEG_INFINITY)
-}
-
-fn show_entry(rt: &LibcRuntime, name: &str, value: f64) -> io::Result<()> {
-    match entry_of(value) {
-        Ok(entry) => println!(rt, "{name}: {entry}"),
-        Err(refusal) => {
-            let number = refusal.number();
-            println!(rt, "{name}: refused {number}")
-        }
+/// Values whose 64-fold lies at a half or just below one, and values at the limits and beyond them.
+fn values(rt: &LibcRuntime) -> io::Result<()> {
+    let below_half = 0.49999999999999994 / 64.0;
+    let past_limit = 500.0_f64.next_up();
+    for value in [
+        1.0 / 128.0,
+        -1.0 / 128.0,
+        3.0 / 128.0,
+        -5.0 / 128.0,
+        below_half,
+        -below_half,
+        1.0 / 3.0,
+        500.0,
+        -500.0,
+        past_limit,
+        -past_limit,
+        f64::NAN,
+        f64::INFINITY,
+        f64::NEG_INFINITY,
+    ] {
+        let answer = match entry_of(value) {
+            Ok(entry) => Ok(entry),
+            Err(refusal) => Err(refusal.number()),
+        };
+        println!(rt, "{value}: {answer:?}")?;
     }
+    Ok(())
 }
 
-fn look_ups(rt: &LibcRuntime) -> io::Result<()> {
-    show_look_up(rt, &[0, 1], 16_384)?;
-    show_look_up(rt, &[0, 1], 16_383)?;
-    show_look_up(rt, &[0, -1], 16_384)?;
-    show_look_up(rt, &[-32_768, 32_767], 32_767)?;
-    show_look_up(rt, &[7, -9, 4], 30_000)?;
-    show_look_up(rt, &[7, -9, 4], 65_535)?;
-    show_look_up(rt, &[12], 40_000)
-}
-
-fn show_look_up(rt: &LibcRuntime, table: &[i16], angle: u16) -> io::Result<()> {
-    match look_up(table, angle) {
-        Some(entry) => println!(rt, "{table:?} at {angle}: {entry}"),
-        None => println!(rt, "{table:?} at {angle}: no entry"),
+fn look_ups(rt: &LibcRuntime, table: &[i16]) -> io::Result<()> {
+    for angle in [0, 16_383, 16_384, 30_000, 65_535] {
+        let answer = look_up(table, angle);
+        println!(rt, "{table:?} at {angle}: {answer:?}")?;
     }
+    Ok(())
 }
 
 fn look_up(table: &[i16], angle: u16) -> Option<i16> {
@@ -83,7 +72,7 @@ fn bytes(rt: &LibcRuntime) -> io::Result<()> {
     Ok(())
 }
 
-/// How many of all entries come back from their value in arcseconds.
+/// How many of all entries come back from their value in arcseconds. The counts go to 65,536, so they cannot wrap.
 fn way_back(rt: &LibcRuntime) -> io::Result<()> {
     let mut same = 0u32;
     let mut refused = 0u32;

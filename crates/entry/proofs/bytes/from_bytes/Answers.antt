@@ -1,12 +1,10 @@
 -- The two bytes make the number, and the number has these two bytes.
-use mathlib.Core.Path.{_≡_, sym, ap, _∙_}
+use mathlib.Core.Path.{_≡_, ap, _∙_}
 use Prim.Native.Nat.{_<_}
-use native.Mathlib.Omega.{arith}
 use lib.ListN.{length, getD}
 use mir.Syntax.{w16}
 use mir.Val.{toZ, ofZ}
 use borrow.Author.Needs.{needs}
-use Rattle.std.proofs.shelf.Signed.{ints}
 use Rattle.entry.specs.TwosComplement.{bytesOf, numberOf}
 use Rattle.entry.proofs.Stored.{bytes-back}
 use Rattle.entry.proofs.bytes.from_bytes.Needs as need

@@ -1,17 +1,14 @@
 -- Either answer is `entryOf` of the value, and so has its law and its way back.
-use mathlib.Core.Path.{_≡_, sym, ap, _∙_, subst}
+use mathlib.Core.Path.{sym, ap, _∙_, subst}
 use lib.Ieee.{Float, binary64, le, mul, toSigned}
-use lib.IntN.{ℤ}
 use mir.Syntax.{w16}
 use mir.Val.{SFits}
 use borrow.Author.Needs.{needs}
 use Rattle.std.proofs.shelf.Signed.{toZ-ofZ}
 use Rattle.std.specs.Floats.{wholeBy}
-use Rattle.std.specs.declared.result.Result.{Result}
 use Rattle.std.specs.declared.result.Result.the-variants.{Ok}
-use Rattle.refusal.specs.declared.Refusal.{Refusal}
 use Rattle.entry.specs.Rounding.{rounded}
-use Rattle.entry.specs.Values.{entryOf, Represents}
+use Rattle.entry.specs.Values.{Represents}
 use Rattle.entry.proofs.Exact.{represents, way-back}
 use Rattle.entry.proofs.Scaled.{accepts, refuses, sixty-four, five-hundred, passes}
 use Rattle.entry.proofs.value.entry_of.Needs as need
