@@ -17,6 +17,7 @@ abbrev pub signed : Bool → ℕ → ℤ
 signed true n = negℤ (pos n)
 signed false n = pos n
 
+-- z is below zero
 abbrev pub isNegative : ℤ → Bool
 isNegative (pos n) = false
 isNegative (negsuc n) = true
@@ -42,7 +43,7 @@ withinLimits (fin s m e) = leb (m * up e) (500 * down e)
 abbrev pub entryOf : Float → Result ℤ Refusal
 entryOf v = cond (withinLimits v) (Ok (nearest (pos 64 *ℤ numerator v) (denominator v))) (Err Value)
 
--- v is z / 64 exactly, and a zero has no sign.
+-- v is z / 64 exactly, and zero is the zero with no sign.
 abbrev pub SixtyFourths : Float → ℤ → Type 0
 SixtyFourths v z = HasValue v (isNegative z) (natAbs z) 64
 

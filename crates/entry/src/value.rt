@@ -10,7 +10,7 @@ use refusal::Refusal;
 use std::num::saturating_f64_to_i16;
 
 /// How many units of an entry make an arcsecond.
-const UNITS: f64 = 64.0;
+const UNITS_PER_ARCSECOND: f64 = 64.0;
 
 /// The greatest size of a value, in arcseconds.
 const LIMIT: f64 = 500.0;
@@ -24,7 +24,7 @@ pub fn entry_of(value: f64) -> Result<i16, Refusal>
 {
     if value.abs() <= LIMIT {
         // Scaling by a power of two is exact, so only one rounding takes place.
-        Ok(saturating_f64_to_i16(nearest_float(value * UNITS)))
+        Ok(saturating_f64_to_i16(nearest_float(value * UNITS_PER_ARCSECOND)))
     } else {
         Err(Refusal::Value)
     }
@@ -36,5 +36,5 @@ pub fn arcseconds(entry: i16) -> f64
     ensures back { λ r. ⌜ (natAbs entry ≤ 32000 → entryOf r ≡ Ok entry) ⌝ }
     ensures beyond { λ r. ⌜ (32000 < natAbs entry → entryOf r ≡ Err Value) ⌝ }
 {
-    f64::from(entry) / UNITS
+    f64::from(entry) / UNITS_PER_ARCSECOND
 }
