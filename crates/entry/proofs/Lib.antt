@@ -1,0 +1,5 @@
+mod Law
+mod Scaled
+mod Exact
+mod Sums
+mod Stored
