@@ -11,8 +11,9 @@ use Rattle.galois.specs.Sums.{D2, D3}
 use Rattle.galois.specs.Rows.{powerSum, Few}
 use Rattle.galois.proofs.Solve.{var, _⊕_, _⊗_, solve}
 use Rattle.galois.proofs.Determinants.{powE}
-use Rattle.galois.proofs.Laws.{mul-zero, power-lt, power-add}
+use Rattle.galois.proofs.Laws.{mul-zero, power-lt}
 use Rattle.galois.proofs.Lift.{Element, same, ops, ring2, number}
+use Rattle.galois.proofs.Powers.{sum-is, product-is, below}
 use Rattle.galois.proofs.PowerSums.{powerSum-lt}
 use Rattle.galois.proofs.Distances.{Turns}
 use Rattle.galois.proofs.Differ.{turn-sum}
@@ -20,44 +21,12 @@ use Rattle.galois.specs.Ring.{numbers}
 use Rattle.decoding.specs.Locators.{cubic, Locates}
 
 module _ (F : FieldModel) (l : FieldLaws F) where
-  -- r is the sum, the product of two elements
-  pub sum-is : (x y r : ℕ) (a b : Element F) → x ≡ a .0 → y ≡ b .0 → r ≡ sum-of F x y → r ≡ ops F l .add a b .0
-  sum-is x y r a b ex ey er = er ∙ ap₂ (sum-of F) ex ey ∙ ap₂ (F .add) (mod-eq-of-lt (a .1)) (mod-eq-of-lt (b .1))
-
-  pub product-is : (x y r : ℕ) (a b : Element F) → x ≡ a .0 → y ≡ b .0 → r ≡ product-of F x y → r ≡ ops F l .mul a b .0
-  product-is x y r a b ex ey er = er ∙ ap₂ (product-of F) ex ey ∙ ap₂ (F .mul) (mod-eq-of-lt (a .1)) (mod-eq-of-lt (b .1))
-
-  below : (r : ℕ) (a : Element F) → r ≡ a .0 → r < size F
-  below r a e = subst (λ n. n < size F) (sym e) (a .1)
-
-  -- ---- powers of alpha
-  pub power-product : (x y r p q : ℕ) → x ≡ power F p → y ≡ power F q → r ≡ product-of F x y → r ≡ power F (p + q)
-  power-product x y r p q ex ey er = product-is x y r (power F p, power-lt F l p) (power F q, power-lt F l q) ex ey er ∙ sym (power-add F l p q)
-
-  pub next-power : (a x r p : ℕ) → a ≡ F .alpha → x ≡ power F p → r ≡ product-of F a x → r ≡ power F (p + 1)
-  unfolding power
-  next-power a x r p ea ex er =
-      let z : suc p ≡ p + 1 = omega arith in
-      product-is a x r (F .alpha, l .powers .alpha-lt) (power F p, power-lt F l p) ea ex er ∙ ap (power F) z
-
-  -- x, x ^ 3 and x ^ 5 of the element x of a position
-  module _ (x q u p : ℕ) (ex : x ≡ power F p) (eq : q ≡ product-of F x x) (eu : u ≡ product-of F q x) where
-    pub cube-is : u ≡ power F (3 * p)
-    cube-is =
-        let z : p + p + p ≡ 3 * p = omega arith in
-        power-product q x u (p + p) p (power-product x x q p p ex ex eq) ex eu ∙ ap (power F) z
-
-    pub fifth-is : (v : ℕ) → v ≡ product-of F u q → v ≡ power F (5 * p)
-    fifth-is v ev =
-        let z : 3 * p + (p + p) ≡ 5 * p = omega arith in
-        power-product u q v (3 * p) (p + p) cube-is (power-product x x q p p ex ex eq) ev ∙ ap (power F) z
-
   -- ---- power sums
   -- the power sum of a row once a position is turned
   pub turned-sum : (c y : ℕ → Bool) (p i s z r : ℕ) → Turns c y p → p < units F → s ≡ powerSum F i c (units F) → z ≡ power F (i * p)
       → r ≡ sum-of F s z → r ≡ powerSum F i y (units F)
   turned-sum c y p i s z r turn lt es ez er =
-      sum-is s z r (powerSum F i c (units F), powerSum-lt F l i c (units F)) (power F (i * p), power-lt F l (i * p)) es ez er
+      sum-is F l s z r (powerSum F i c (units F), powerSum-lt F l i c (units F)) (power F (i * p), power-lt F l (i * p)) es ez er
       ∙ sym (turn-sum F l c y i p (units F) lt turn)
 
   -- ---- determinants
@@ -79,16 +48,16 @@ module _ (F : FieldModel) (l : FieldLaws F) where
     V = ops F l .add U B
 
     square : q ≡ Q .0
-    square = product-is s1 s1 q A A refl refl eq
+    square = product-is F l s1 s1 q A A refl refl eq
 
     cube : u ≡ U .0
-    cube = product-is q s1 u Q A square refl eu
+    cube = product-is F l q s1 u Q A square refl eu
 
     second : d2 ≡ V .0
-    second = sum-is u s3 d2 U B cube refl e2
+    second = sum-is F l u s3 d2 U B cube refl e2
 
     pub second-lt : d2 < size F
-    second-lt = below d2 V second
+    second-lt = below F l d2 V second
 
     pub second-is : d2 ≡ D2 (numbers F) s1 s3
     second-is = second ∙ number F l (solve (ring2 F l) (A ∷ B ∷ []) (var 0 ⊗ var 0 ⊗ var 0 ⊕ var 1) (powE (var 0) 3 ⊕ var 1) tt)
@@ -103,9 +72,9 @@ module _ (F : FieldModel) (l : FieldLaws F) where
       third-is a b w z d3 ea eb ew ez e3 =
           let UV = ops F l .mul U V in
           let AC = ops F l .mul A C in
-          sum-is w z d3 (ops F l .add UV AC) (ops F l .mul B B)
-          (sum-is a b w UV AC (product-is u d2 a U V cube second ea) (product-is s1 s5 b A C refl refl eb) ew)
-          (product-is s3 s3 z B B refl refl ez) e3
+          sum-is F l w z d3 (ops F l .add UV AC) (ops F l .mul B B)
+          (sum-is F l a b w UV AC (product-is F l u d2 a U V cube second ea) (product-is F l s1 s5 b A C refl refl eb) ew)
+          (product-is F l s3 s3 z B B refl refl ez) e3
           ∙ number F l
           (solve (ring2 F l) (A ∷ B ∷ C ∷ []) ((var 0 ⊗ var 0 ⊗ var 0) ⊗ (var 0 ⊗ var 0 ⊗ var 0 ⊕ var 1) ⊕ var 0 ⊗ var 2 ⊕ var 1 ⊗ var 1)
           (powE (var 0) 6 ⊕ powE (var 0) 3 ⊗ var 1 ⊕ var 0 ⊗ var 2 ⊕ powE (var 1) 2) tt)
@@ -127,12 +96,12 @@ module _ (F : FieldModel) (l : FieldLaws F) where
       divided : (a b r v : ℕ) (a′ b′ : Element F) → a ≡ a′ .0 → b ≡ b′ .0 → a ≢ 0 → IsInverse F (elem F a) r → v ≡ product-of F b r
           → (v < size F) × (F .mul a v ≡ b)
       divided a b r v a′ b′ ea eb nz inv ev =
-          let r′ : Element F = (r, inv .below) in
+          let r′ : Element F = (r, inv .below F l) in
           let z : elem F a ≡ a = ap (elem F) ea ∙ mod-eq-of-lt (a′ .1) ∙ sym ea in
           let pos : 0 < elem F a = omega arith in
           let one : ops F l .mul a′ r′ ≡ ops F l .e = same F _ (ops F l .e) (ap (λ y. F .mul y r) (sym (z ∙ ea)) ∙ inv .at-unit pos) in
-          let v-is = product-is b r v b′ r′ eb refl ev in (
-            below v (ops F l .mul b′ r′) v-is,
+          let v-is = product-is F l b r v b′ r′ eb refl ev in (
+            below F l v (ops F l .mul b′ r′) v-is,
             ap₂ (F .mul) ea v-is
                 ∙ number F l
                 (solve (ring2 F l) (a′ ∷ b′ ∷ r′ ∷ []) (var 0 ⊗ (var 1 ⊗ var 2)) (var 1 ⊗ (var 0 ⊗ var 2)) tt
@@ -143,7 +112,7 @@ module _ (F : FieldModel) (l : FieldLaws F) where
       -- for two where t is 2: D2 / S_1
       pub locates-two : (r r2 : ℕ) → IsInverse F (elem F s1) r → r2 ≡ product-of F d2 r → (r2 < size F) × Located 2 r2 0
       locates-two r r2 inv e = (
-        below r2 (ops F l .mul V (r, inv .below)) (product-is d2 r r2 V (r, inv .below) second refl e),
+        below F l r2 (ops F l .mul V (r, inv .below F l)) (product-is F l d2 r r2 V (r, inv .below F l) second refl e),
         (λ nz. divided s1 d2 r r2 A V refl second nz inv e .1 ∙ second-is, refl),
       )
 
@@ -152,12 +121,12 @@ module _ (F : FieldModel) (l : FieldLaws F) where
           → r2 ≡ product-of F b r → w ≡ product-of F s1 r2 → r3 ≡ sum-of F d2 w → (r2 < size F) × (r3 < size F) × Located 3 r2 r3
       locates-three a b r r2 w r3 nz ea eb inv e ew er =
           let QB = ops F l .mul Q B in
-          let b-is = sum-is a s5 b QB C (product-is q s3 a Q B square refl ea) refl eb in
+          let b-is = sum-is F l a s5 b QB C (product-is F l q s3 a Q B square refl ea) refl eb in
           let d = divided d2 b r r2 V (ops F l .add QB C) second b-is nz inv e in
           let R : Element F = (r2, d .0) in
-          let r3-is = sum-is d2 w r3 V (ops F l .mul A R) second (product-is s1 r2 w A R refl refl ew) er in (
+          let r3-is = sum-is F l d2 w r3 V (ops F l .mul A R) second (product-is F l s1 r2 w A R refl refl ew) er in (
             d .0,
-            below r3 (ops F l .add V (ops F l .mul A R)) r3-is,
+            below F l r3 (ops F l .add V (ops F l .mul A R)) r3-is,
             (
               λ z. absurd (nz (second-is ∙ z)),
               λ _. (
@@ -179,5 +148,5 @@ module _ (F : FieldModel) (l : FieldLaws F) where
       let AY = ops F l .add Y R1 in
       let BY = ops F l .mul AY Y in
       let UY = ops F l .add BY R2 in
-      sum-is v r3 w (ops F l .mul UY Y) R3
-      (product-is u x v UY Y (sum-is b r2 u BY R2 (product-is a x b AY Y (sum-is x r1 a Y R1 refl refl ea) refl eb) refl eu) refl ev) refl ew
+      sum-is F l v r3 w (ops F l .mul UY Y) R3
+      (product-is F l u x v UY Y (sum-is F l b r2 u BY R2 (product-is F l a x b AY Y (sum-is F l x r1 a Y R1 refl refl ea) refl eb) refl eu) refl ev) refl ew

@@ -2,3 +2,4 @@ pub mod Reduced
 pub mod Turns
 pub mod Lookups
 pub mod Totals
+pub mod Summed

@@ -4,15 +4,21 @@
 //! hold of that. Everything above rests on the model and the laws alone, so that a field of one's own serves as well as ours.
 //! `ShiftField` and `TableField` are the house fields: two ways of working, one meaning, `house m`.
 ghost use mathlib.Core.Path.{_≡_};
+ghost use Prim.Native.Nat.{_*_};
+ghost use lib.ListN.{length};
+ghost use Rattle.bits.specs.Bits.{bitAt};
 ghost use Rattle.galois.specs.Model.{FieldModel, FieldLaws, IsInverse, IsExponent, elem, sum-of, product-of};
+ghost use Rattle.field.specs.Syndromes.{syndromesOf, withTurn};
 
 pub mod degree;
 pub mod generic;
 pub mod shift;
+pub mod syndromes;
 pub mod table;
 
 pub use degree::check_degree;
 pub use shift::ShiftField;
+pub use syndromes::Syndromes;
 pub use table::TableField;
 
 /// A field. Element numbers are read modulo 2^m and answered below it. No question asks anything of its caller or changes anything.
@@ -44,4 +50,39 @@ pub trait Field {
     /// The p with alpha^p = a and p < n; n for 0.
     fn exponent(&self, a: u8) -> u8
         ensures { λ r. ⌜ IsExponent (model (now (self .entry))) (elem (model (now (self .entry))) a) r ⌝ };
+
+    /// The syndromes once the position p of the element x = alpha^p is turned.
+    fn turned(&self, sums: Syndromes, x: u8) -> Syndromes
+        ensures { λ r. ⌜ r ≡ withTurn (model (now (self .entry))) sums x ⌝ }
+    {
+        let square = self.mul(x, x);
+        let cube = self.mul(square, x);
+        Syndromes {
+            s1: self.add(sums.s1, x),
+            s3: self.add(sums.s3, cube),
+            s5: self.add(sums.s5, self.mul(cube, square)),
+        }
+    }
+
+    /// The syndromes of the bits of a buffer. A field that has a faster way writes its own.
+    fn syndromes(&self, row: &[u8]) -> Syndromes
+        ensures { λ r. ⌜ r ≡ syndromesOf (model (now (self .entry))) (bitAt 8 (now (row .entry))) (8 * length (now (row .entry))) ⌝ }
+    {
+        let alpha = self.alpha();
+        let mut sums = Syndromes {
+            s1: 0,
+            s3: 0,
+            s5: 0,
+        };
+        let mut x = 1;
+        for byte in row {
+            for i in 0..8u8 {
+                if (*byte >> i) % 2 == 1 {
+                    sums = self.turned(sums, x);
+                }
+                x = self.mul(alpha, x);
+            }
+        }
+        sums
+    }
 }

@@ -18,3 +18,4 @@ pub mod Generators
 pub mod Distances
 pub mod Differ
 pub mod Least
+pub mod Powers
