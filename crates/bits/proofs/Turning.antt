@@ -14,10 +14,10 @@ use Rattle.std.proofs.shelf.Bits.{pow-pos, pow-add, shl-shr, pow-below, div-add
 use Rattle.std.proofs.shelf.Tests.{eq-eqb, ne-eqb, cases-eq, cases-order, cases-lt, false≢true}
 use Rattle.bits.specs.Bits.{xor, bitOf, bitAt, turnedAt}
 
-pow-bit-same : (j : ℕ) → 2 ^ j / 2 ^ j % 2 ≡ 1
+pub pow-bit-same : (j : ℕ) → 2 ^ j / 2 ^ j % 2 ≡ 1
 pow-bit-same j = ap (λ n. n % 2) (div-self (pow-pos j))
 
-pow-bit-other : (i j : ℕ) → i ≢ j → 2 ^ j / 2 ^ i % 2 ≡ 0
+pub pow-bit-other : (i j : ℕ) → i ≢ j → 2 ^ j / 2 ^ i % 2 ≡ 0
 pow-bit-other i j ne =
     ⊎-elim (λ e. absurd (ne e))
     (⊎-elim
@@ -90,7 +90,7 @@ turn-puts w xs k v h ne i =
     (λ (e : i ≡ k → ⊥). rw (ne-eqb i k e))
     (cases-eq i k)
 
-zero-at : (n i : ℕ) → _≡_ {A = ℕ} (getD (replicate n 0) i 0) 0
+pub zero-at : (n i : ℕ) → _≡_ {A = ℕ} (getD (replicate n 0) i 0) 0
 zero-at n i = ⊎-elim (λ lt. getD-replicate n i 0 0 lt) (λ le. getD-past (replicate n 0) i 0 (rw length-replicate le)) (cases-lt i n)
 
 pub bitOf-zero : (i : ℕ) → bitOf 0 i ≡ false

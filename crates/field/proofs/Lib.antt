@@ -3,3 +3,4 @@ pub mod Turns
 pub mod Lookups
 pub mod Totals
 pub mod Summed
+pub mod ByteTables

@@ -10,6 +10,7 @@ ghost use Rattle.bits.specs.Bits.{bitAt};
 ghost use Rattle.galois.specs.Model.{FieldModel, FieldLaws, IsInverse, IsExponent, elem, sum-of, product-of};
 ghost use Rattle.field.specs.Syndromes.{syndromesOf, withTurn};
 
+mod byte_sums;
 pub mod degree;
 pub mod generic;
 pub mod shift;

@@ -63,7 +63,8 @@ impl ShiftField {
         (reduced & self.units() as u16) as u8
     }
 
-    fn power(&self, p: u8) -> u8
+    /// alpha^p.
+    pub fn power(&self, p: u8) -> u8
         ensures { λ r. ⌜ r ≡ power (house (now (self .entry) .m)) p ⌝ }
     {
         let mut y = 1;

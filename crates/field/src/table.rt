@@ -2,8 +2,10 @@
 ghost use mathlib.Core.Path.{_≡_};
 ghost use Rattle.galois.specs.House.{Taken, house};
 ghost use Rattle.galois.proofs.House.{house-laws};
-ghost use Rattle.field.specs.Tables.{Tables};
+ghost use Rattle.field.specs.Tables.{Tables, ByteSums};
 use crate::Field;
+use crate::Syndromes;
+use crate::byte_sums::byte_sums;
 use crate::shift::ShiftArithmetic;
 use crate::shift::ShiftField;
 
@@ -14,7 +16,12 @@ pub struct TableField {
     /// alpha^p for p below 2n, so that a sum of two exponents needs no reduction.
     powers: [u8; 512],
     exponents: [u8; 256],
+    /// What each byte at each index of a row adds to S_1, S_3 and S_5.
+    first_sums: [u8; 8192],
+    third_sums: [u8; 8192],
+    fifth_sums: [u8; 8192],
     ghost tied: { Tables (base .m) powers exponents },
+    ghost summed: { ByteSums (base .m) 1 «first_sums» × ByteSums (base .m) 3 «third_sums» × ByteSums (base .m) 5 «fifth_sums» },
 }
 
 impl TableField {
@@ -34,11 +41,10 @@ impl TableField {
             exponents[y as usize] = p;
             y = base.times_alpha(y);
         }
-        TableField {
-            base,
-            powers,
-            exponents,
-        }
+        let first_sums = byte_sums(&base, 1);
+        let third_sums = byte_sums(&base, 3);
+        let fifth_sums = byte_sums(&base, 5);
+        TableField { base, powers, exponents, first_sums, third_sums, fifth_sums }
     }
 }
 
@@ -78,5 +84,21 @@ pub impl Field for TableField as TableArithmetic {
 
     fn exponent(&self, a: u8) -> u8 {
         self.exponents[self.base.element(a) as usize]
+    }
+
+    fn syndromes(&self, row: &[u8]) -> Syndromes {
+        if row.len() > 32 {
+            return self.base.syndromes(row);
+        }
+        let mut s1 = 0;
+        let mut s3 = 0;
+        let mut s5 = 0;
+        for (q, byte) in row.iter().enumerate() {
+            let at = 256 * q + *byte as usize;
+            s1 ^= self.first_sums[at];
+            s3 ^= self.third_sums[at];
+            s5 ^= self.fifth_sums[at];
+        }
+        Syndromes { s1, s3, s5 }
     }
 }

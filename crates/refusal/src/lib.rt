@@ -78,3 +78,6 @@ pub impl fmt::Display for Refusal as RefusalDisplay {
         f.write_str(self.reason())
     }
 }
+
+/// So that `?` carries a refusal out of a program.
+pub impl std::error::Error for Refusal as RefusalError {}
