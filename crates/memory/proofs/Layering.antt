@@ -22,13 +22,20 @@ module _ (size : ℕ → ℕ) (index : ℕ → ℕ → ℕ) (m : Mem) (p : Picks
     apart = λ i j hi hj e. p .once i j hi hj (s .apart _ _ (p .into i hi) (p .into j hj) e);
   }
 
-  pub got : (i : ℕ) → i < size (m .layout .cells) → (r : Result Bool Refusal) → Got m (index (m .layout .cells) i) r → Got (layered size index m) i r
-  got i h (Ok v) q = (h, q .1)
-  got i h (Err e) q = absurd (omega (arith, p .into i h))
+  -- cell k below is the layer's cell i
+  abbrev Is : ℕ → ℕ → Type 0
+  Is i k = (i < size (m .layout .cells)) × (k ≡ index (m .layout .cells) i)
 
-  pub placed : (i : ℕ) → i < size (m .layout .cells) → (r : Result ℕ Refusal) → Placed m (index (m .layout .cells) i) r → Placed (layered size index m) i r
-  placed i h (Ok v) q = (h, q .1)
-  placed i h (Err e) q = absurd (omega (arith, p .into i h))
+  is-below : (i k : ℕ) → Is i k → k < m .layout .cells
+  is-below i k s = rw (s .1) (p .into i (s .0))
+
+  pub got : (i k : ℕ) → Is i k → (r : Result Bool Refusal) → Got m k r → Got (layered size index m) i r
+  got i k s (Ok v) q = (s .0, q .1 ∙ ap (m .bit) (s .1))
+  got i k s (Err e) q = absurd (omega (arith, is-below i k s))
+
+  pub placed : (i k : ℕ) → Is i k → (r : Result ℕ Refusal) → Placed m k r → Placed (layered size index m) i r
+  placed i k s (Ok v) q = (s .0, q .1 ∙ ap (m .layout .place) (s .1))
+  placed i k s (Err e) q = absurd (omega (arith, is-below i k s))
 
   module _ (m′ : Mem) where
     -- the layout above follows from that below, and so do the cells
@@ -38,19 +45,21 @@ module _ (size : ℕ → ℕ) (index : ℕ → ℕ → ℕ) (m : Mem) (p : Picks
       λ k h. ap (λ (l : Layout). m′ .bit (index (l .cells) k)) (q .0) ∙ q .1 _ (p .into k h),
     )
 
-    same-test : (k i : ℕ) → k < size (m .layout .cells) → i < size (m .layout .cells) → eqb (index (m .layout .cells) k) (index (m .layout .cells) i) ≡ eqb k i
-    same-test k i hk hi =
+    same-test : (j i k : ℕ) → j < size (m .layout .cells) → Is i k → eqb (index (m .layout .cells) j) k ≡ eqb j i
+    same-test j i k hj s =
         ⊎-elim
-        (λ (e : k ≡ i). eq-eqb _ _ (ap (index (m .layout .cells)) e) ∙ sym (eq-eqb k i e))
-        (λ (e : k ≢ i). ne-eqb _ _ (λ c. e (p .once k i hk hi c)) ∙ sym (ne-eqb k i e))
-        (cases-eq k i)
+        (λ (e : j ≡ i). eq-eqb _ _ (ap (index (m .layout .cells)) e ∙ sym (s .1)) ∙ sym (eq-eqb j i e))
+        (λ (e : j ≢ i). ne-eqb _ _ (λ c. e (p .once j i hj (s .0) (c ∙ s .1))) ∙ sym (ne-eqb j i e))
+        (cases-eq j i)
 
-    pub put : {U : Type 0} (i : ℕ) (v : Bool) → i < size (m .layout .cells) → (r : Result U Refusal)
-        → Put m m′ (index (m .layout .cells) i) v r → Put (layered size index m) (layered size index m′) i v r
-    put i v h (Ok u) q =
-        let t = through _ (q .1) in
-        (h, (t .0, λ k lt. t .1 k lt ∙ ap (λ x. cond x v (m .bit (index (m .layout .cells) k))) (same-test k i lt h)), q .2)
-    put i v h (Err e) q = absurd (omega (arith, p .into i h))
+    pub put : {U : Type 0} (i k : ℕ) (v : Bool) → Is i k → (r : Result U Refusal) → Put m m′ k v r → Put (layered size index m) (layered size index m′) i v r
+    put i k v s (Ok u) q =
+        let t = through _ (q .1) in (
+          s .0,
+          (t .0, λ j lt. t .1 j lt ∙ ap (λ x. cond x v (m .bit (index (m .layout .cells) j))) (same-test j i k lt s)),
+          λ b lt ne. q .2 b lt (λ e. ne (e ∙ ap (m .layout .place) (s .1))),
+        )
+    put i k v s (Err e) q = absurd (omega (arith, is-below i k s))
 
     pub unchanged : Unchanged m m′ → Unchanged (layered size index m) (layered size index m′)
     unchanged q = (through _ (q .0), q .1)
