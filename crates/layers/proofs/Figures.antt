@@ -6,7 +6,6 @@ use native.Mathlib.Nat.{mul-le-mul-right, mul-le-mul-left, div-le-self, div-mul-
 use native.Mathlib.Omega.{arith}
 use lib.Dec.{leb, eqb}
 use Rattle.std.proofs.shelf.Bits.{div-add-mod', mod-below, mod-mul-add, mul-le}
-use Rattle.std.proofs.shelf.Tests.{cond-true, cond-both}
 use Rattle.std.proofs.shelf.Ways.{tells}
 use Rattle.layers.specs.Layers.{WindowFits, windowTest, windowSize, InterleaverFits, interleaverTest, interleaverSize}
 use Rattle.layers.specs.Crossing.{figures, Figures, window-figures}
@@ -39,10 +38,3 @@ row-small d w k = omega (arith, mul-le-mul-right w (div-le-self (k / w) d), div-
 pub crossed-small : (d w k : ℕ) → 0 < d → d ≤ 16 → 0 < w → w ≤ 255 → k ≤ 262144 → (k / w / d * w + k % w) * d ≤ 4198384
 crossed-small d w k dp ds wp ws ks =
     omega (arith, mul-le-mul-left (k / w / d * w + k % w) ds, row-small d w k, mod-below k w wp)
-
-pub interleaver-fit : (d w n : ℕ) → InterleaverFits d w n → interleaverSize d w n ≡ n
-interleaver-fit d w n f = cond-true _ _ _ (interleaver-test d w n f)
-
-pub interleaver-unfit : (d w n : ℕ) → (InterleaverFits d w n → ⊥) → interleaverSize d w n ≡ 0
-interleaver-unfit d w n no-fit =
-    cond-both (interleaverTest d w n) n 0 (λ s. s ≡ 0) (λ e. absurd (no-fit (interleaver-fits d w n e))) (λ e. refl)

@@ -1,2 +1,3 @@
 pub mod Figures
-pub mod Lying
+pub mod Laws
+pub mod Filling

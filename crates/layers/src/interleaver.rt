@@ -6,10 +6,9 @@ ghost use Prim.Native.Nat.{_<_, _≤_};
 ghost use Rattle.refusal.specs.Checks.{Checked};
 ghost use Rattle.refusal.specs.declared.Refusal.the-variants.{Layer};
 ghost use Rattle.memory.specs.Mem.{Layout, Mem, Sound, Got, Placed, Put, Knocked};
-ghost use Rattle.memory.specs.Lines.{InLine, Interleaved};
 ghost use Rattle.memory.specs.Layered.{layered, Shown};
 ghost use Rattle.memory.proofs.Layering.{layered-sound};
-ghost use Rattle.layers.specs.Layers.{interleaved, interleaverTest, interleaverSize, InterleaverFits, crossed as crossing, CrossedByDigits};
+ghost use Rattle.layers.specs.Layers.{interleaved, interleaverTest, interleaverSize, InterleaverFits, InterleaverLaws, crossed as crossing};
 ghost use Rattle.layers.specs.Crossing.{interleaver-picks};
 use memory::Memory;
 use refusal::Refusal;
@@ -48,10 +47,7 @@ impl<M: Memory> Interleaver<M> {
     /// The interleaver over `below`; of no cells where the figures do not fit.
     pub fn new(below: M, depth: u32, width: u32) -> Interleaver<M>
         ensures holds { λ r. ⌜ r .below ≡ below ⌝ ∗ ⌜ r .depth ≡ depth ⌝ ∗ ⌜ r .width ≡ width ⌝ }
-        ensures fit { λ r. ⌜ (InterleaverFits depth width (M·Memory .means below .layout .cells) → interleaved depth width (M·Memory .means below) .layout .cells ≡ M·Memory .means below .layout .cells) ⌝ }
-        ensures unfit { λ r. ⌜ ((InterleaverFits depth width (M·Memory .means below .layout .cells) → ⊥) → interleaved depth width (M·Memory .means below) .layout .cells ≡ 0) ⌝ }
-        ensures digits { λ r. ⌜ CrossedByDigits depth width ⌝ }
-        ensures line { λ r. ⌜ (InterleaverFits depth width (M·Memory .means below .layout .cells) → InLine (M·Memory .means below .layout) → Interleaved depth width (interleaved depth width (M·Memory .means below) .layout)) ⌝ }
+        ensures laws { λ r. ⌜ InterleaverLaws depth width (M·Memory .means below) ⌝ }
     {
         Interleaver {
             below,

@@ -4,10 +4,9 @@ ghost use Prim.Native.Nat.{_+_};
 ghost use Rattle.refusal.specs.Checks.{Checked};
 ghost use Rattle.refusal.specs.declared.Refusal.the-variants.{Layer};
 ghost use Rattle.memory.specs.Mem.{Layout, Mem, Sound, Got, Placed, Put, Knocked};
-ghost use Rattle.memory.specs.Lines.{InLine};
 ghost use Rattle.memory.specs.Layered.{layered, Shown};
 ghost use Rattle.memory.proofs.Layering.{layered-sound};
-ghost use Rattle.layers.specs.Layers.{windowed, windowTest, windowSize, WindowFits};
+ghost use Rattle.layers.specs.Layers.{windowed, windowTest, windowSize, WindowFits, WindowLaws};
 ghost use Rattle.layers.specs.Crossing.{window-picks};
 use memory::Memory;
 use refusal::Refusal;
@@ -42,9 +41,7 @@ impl<M: Memory> Window<M> {
     /// The window over `below`; of no cells where the figures do not fit.
     pub fn new(below: M, first: u32, length: u32) -> Window<M>
         ensures holds { λ r. ⌜ r .below ≡ below ⌝ ∗ ⌜ r .first ≡ first ⌝ ∗ ⌜ r .length ≡ length ⌝ }
-        ensures fit { λ r. ⌜ (WindowFits first length (M·Memory .means below .layout .cells) → windowed first length (M·Memory .means below) .layout .cells ≡ length) ⌝ }
-        ensures unfit { λ r. ⌜ ((WindowFits first length (M·Memory .means below .layout .cells) → ⊥) → windowed first length (M·Memory .means below) .layout .cells ≡ 0) ⌝ }
-        ensures line { λ r. ⌜ (InLine (M·Memory .means below .layout) → InLine (windowed first length (M·Memory .means below) .layout)) ⌝ }
+        ensures laws { λ r. ⌜ WindowLaws first length (M·Memory .means below) ⌝ }
     {
         Window {
             below,

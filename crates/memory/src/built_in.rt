@@ -36,7 +36,7 @@ pub impl Memory for BuiltInCells as BuiltInCellsMemory {
     }
 
     fn span(&self) -> u32 {
-        CELLS
+        self.cells()
     }
 
     fn get(&self, i: u32) -> Result<bool, Refusal> {

@@ -5,8 +5,6 @@ use crate::trace::interleaver;
 use crate::trace::inverter;
 use crate::trace::trace;
 use crate::trace::window;
-use crate::users::copy;
-use crate::users::fill;
 use layers::Interleaver;
 use layers::InterleaverMemory;
 use layers::Inverter;
@@ -14,6 +12,8 @@ use layers::InverterMemory;
 use layers::Window;
 use layers::WindowMemory;
 use layers::cell_eighteen;
+use layers::copy;
+use layers::fill;
 use memory::BuiltInCells;
 use memory::BuiltInCellsMemory;
 use memory::ByteCells;
@@ -21,7 +21,7 @@ use memory::ByteCellsMemory;
 use memory::WordCells;
 use memory::WordCellsMemory;
 
-pub fn over_built_in(page: &mut Page) {
+pub(crate) fn over_built_in(page: &mut Page) {
     page.word("over window 0 30 over built-in\n");
     if let Ok(place) = cell_eighteen() {
         page.phrase("  cell and place", 18, place);
@@ -31,7 +31,7 @@ pub fn over_built_in(page: &mut Page) {
     interleaver(page, Window::new(BuiltInCells::new(), 0, 30), 2, 15, &steps);
 }
 
-pub fn over_bytes(page: &mut Page) {
+pub(crate) fn over_bytes(page: &mut Page) {
     page.word("over interleaver 2 15 over window 1 30 over bytes\n");
     let mut bytes = [0x35, 0xc0, 0xff, 0x01];
     let below = Interleaver::new(Window::new(ByteCells::new(&mut bytes), 1, 30), 2, 15);
@@ -58,7 +58,7 @@ pub fn over_bytes(page: &mut Page) {
     page.bytes(&bytes);
 }
 
-pub fn over_words(page: &mut Page) {
+pub(crate) fn over_words(page: &mut Page) {
     page.word("over inverter over interleaver 4 8 over words\n");
     let mut words = [0x8000_0001, 0x0f0f_1234];
     let below = Inverter::new(Interleaver::new(WordCells::new(&mut words), 4, 8));
@@ -86,7 +86,7 @@ pub fn over_words(page: &mut Page) {
     page.words(&words);
 }
 
-pub fn users(page: &mut Page) {
+pub(crate) fn transfers(page: &mut Page) {
     let mut bytes = [0x35, 0xc0, 0xff, 0x01];
     let from = Inverter::new(ByteCells::new(&mut bytes));
     let mut to = Window::new(BuiltInCells::new(), 100, 40);

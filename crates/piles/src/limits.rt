@@ -9,7 +9,7 @@ use memory::ByteCellsMemory;
 use memory::WordCells;
 use memory::WordCellsMemory;
 
-pub fn unfit_windows(page: &mut Page) {
+pub(crate) fn unfit_windows(page: &mut Page) {
     for (first, length) in [
         (0, 32),
         (0, 33),
@@ -32,7 +32,7 @@ pub fn unfit_windows(page: &mut Page) {
     }
 }
 
-pub fn unfit_interleavers(page: &mut Page) {
+pub(crate) fn unfit_interleavers(page: &mut Page) {
     for (depth, width) in [
         (16, 2),
         (32, 1),
@@ -57,7 +57,7 @@ pub fn unfit_interleavers(page: &mut Page) {
     }
 }
 
-pub fn no_cells(page: &mut Page) {
+pub(crate) fn no_cells(page: &mut Page) {
     let steps = [
         Step::Put(0, true),
         Step::Knock(0, 0),
@@ -81,14 +81,14 @@ const LAST_CELLS: [Step; 8] = [
     Step::Knock(1, 4294967295),
 ];
 
-pub fn most_bytes(page: &mut Page) {
+pub(crate) fn most_bytes(page: &mut Page) {
     page.word("32770 bytes, the last five\n");
     let mut bytes = [0xb5; 32770];
     trace(page, &mut ByteCells::new(&mut bytes), &LAST_CELLS);
     page.bytes(&bytes[32765..32770]);
 }
 
-pub fn most_words(page: &mut Page) {
+pub(crate) fn most_words(page: &mut Page) {
     page.word("8194 words, the last four\n");
     let mut words = [0xb500_0001; 8194];
     trace(page, &mut WordCells::new(&mut words), &LAST_CELLS);

@@ -9,7 +9,6 @@ mod limits;
 mod page;
 mod single;
 mod trace;
-mod users;
 
 fn main(rt: LibcRuntime) -> io::Result<()> {
     let mut page = Page::new();
@@ -20,7 +19,7 @@ fn main(rt: LibcRuntime) -> io::Result<()> {
     deep::over_built_in(&mut page);
     deep::over_bytes(&mut page);
     deep::over_words(&mut page);
-    deep::users(&mut page);
+    deep::transfers(&mut page);
     limits::unfit_windows(&mut page);
     limits::unfit_interleavers(&mut page);
     limits::no_cells(&mut page);

@@ -3,38 +3,38 @@
 const SIZE: usize = 32768;
 
 #[derive(Drop)]
-pub struct Page {
+pub(crate) struct Page {
     text: [u8; SIZE],
     used: usize,
 }
 
 impl Page {
-    pub fn new() -> Page {
+    pub(crate) fn new() -> Page {
         Page {
             text: [0; SIZE],
             used: 0,
         }
     }
 
-    pub fn text(&self) -> &[u8] {
+    pub(crate) fn text(&self) -> &[u8] {
         &self.text[0..self.used.min(SIZE)]
     }
 
-    pub fn byte(&mut self, b: u8) {
+    pub(crate) fn byte(&mut self, b: u8) {
         if self.used < SIZE {
             self.text[self.used] = b;
             self.used += 1;
         }
     }
 
-    pub fn word(&mut self, word: &str) {
+    pub(crate) fn word(&mut self, word: &str) {
         for b in word.as_bytes() {
             self.byte(*b);
         }
     }
 
     /// The number in decimal.
-    pub fn number(&mut self, n: u32) {
+    pub(crate) fn number(&mut self, n: u32) {
         if n >= 10 {
             self.number(n / 10);
         }
@@ -42,7 +42,7 @@ impl Page {
     }
 
     /// A word and two numbers.
-    pub fn phrase(&mut self, word: &str, a: u32, b: u32) {
+    pub(crate) fn phrase(&mut self, word: &str, a: u32, b: u32) {
         self.word(word);
         self.byte(b' ');
         self.number(a);
@@ -51,7 +51,7 @@ impl Page {
     }
 
     /// Bytes on a line.
-    pub fn bytes(&mut self, bytes: &[u8]) {
+    pub(crate) fn bytes(&mut self, bytes: &[u8]) {
         self.word(" ");
         for b in bytes {
             self.byte(b' ');
@@ -61,7 +61,7 @@ impl Page {
     }
 
     /// Words on a line.
-    pub fn words(&mut self, words: &[u32]) {
+    pub(crate) fn words(&mut self, words: &[u32]) {
         self.word(" ");
         for w in words {
             self.byte(b' ');

@@ -12,7 +12,7 @@ use memory::ByteCellsMemory;
 use memory::WordCells;
 use memory::WordCellsMemory;
 
-pub fn bottoms(page: &mut Page) {
+pub(crate) fn bottoms(page: &mut Page) {
     let steps = [
         Step::Put(3, true),
         Step::Put(0, false),
@@ -32,7 +32,7 @@ pub fn bottoms(page: &mut Page) {
     trace(page, &mut BuiltInCells::new(), &steps);
 }
 
-pub fn over_bytes(page: &mut Page) {
+pub(crate) fn over_bytes(page: &mut Page) {
     page.word("over bytes\n");
     let mut bytes = [0x35, 0xc0, 0xff, 0x01];
     window(
@@ -64,7 +64,7 @@ pub fn over_bytes(page: &mut Page) {
     page.bytes(&bytes);
 }
 
-pub fn over_words(page: &mut Page) {
+pub(crate) fn over_words(page: &mut Page) {
     page.word("over words\n");
     let mut words = [0x8000_0001, 0x0f0f_1234];
     window(
@@ -91,7 +91,7 @@ pub fn over_words(page: &mut Page) {
     page.words(&words);
 }
 
-pub fn over_built_in(page: &mut Page) {
+pub(crate) fn over_built_in(page: &mut Page) {
     page.word("over built-in\n");
     window(
         page,

@@ -11,7 +11,7 @@ use refusal::Refusal;
 
 /// A call that changes cells.
 #[derive(Clone, Copy)]
-pub enum Step {
+pub(crate) enum Step {
     Put(u32, bool),
     Knock(u32, u32),
 }
@@ -30,7 +30,7 @@ fn answer(page: &mut Page, r: Result<(), Refusal>) {
     }
 }
 
-pub fn window<M: Memory + Drop>(
+pub(crate) fn window<M: Memory + Drop>(
     page: &mut Page,
     below: M,
     first: u32,
@@ -42,7 +42,7 @@ pub fn window<M: Memory + Drop>(
     trace(page, &mut Window::new(below, first, length), steps);
 }
 
-pub fn interleaver<M: Memory + Drop>(
+pub(crate) fn interleaver<M: Memory + Drop>(
     page: &mut Page,
     below: M,
     depth: u32,
@@ -54,13 +54,13 @@ pub fn interleaver<M: Memory + Drop>(
     trace(page, &mut Interleaver::new(below, depth, width), steps);
 }
 
-pub fn inverter<M: Memory + Drop>(page: &mut Page, below: M, steps: &[Step]) {
+pub(crate) fn inverter<M: Memory + Drop>(page: &mut Page, below: M, steps: &[Step]) {
     page.word("inverter\n");
     trace(page, &mut Inverter::new(below), steps);
 }
 
 /// The number of cells, the span, the places and the cells; then each step with its answer and the cells.
-pub fn trace<M: Memory>(page: &mut Page, m: &mut M, steps: &[Step]) {
+pub(crate) fn trace<M: Memory>(page: &mut Page, m: &mut M, steps: &[Step]) {
     page.phrase("  cells and span", m.cells(), m.span());
     page.word("\n");
     places(page, m);

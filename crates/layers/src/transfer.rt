@@ -1,4 +1,4 @@
-//! Users of a memory that know nothing of it but the trait.
+//! Whole memories filled and copied, over nothing but the trait.
 ghost use mathlib.Core.Path.{_≡_};
 ghost use mathlib.Core.Bool.{cond};
 ghost use Prim.Native.Nat.{min};

@@ -1,8 +1,8 @@
 use mathlib.Core.Path.{_≡_}
 use native.Mathlib.Omega.{arith}
-use Rattle.piles.proofs.Filling.{filled-none, filled-more}
-use Rattle.piles.proofs.users.copy.Needs as need
-use Rattle.piles.proofs.users.copy.Needs.{in-Ok, in-rest}
+use Rattle.layers.proofs.Filling.{filled-none, filled-more}
+use Rattle.layers.proofs.transfer.copy.Needs as need
+use Rattle.layers.proofs.transfer.copy.Needs.{in-Ok, in-rest}
 
 pub loop-k-holds : need.loop-k-holds
 loop-k-holds g c = filled-none (g .B·Memory .means (c .args .b .now)) (g .A·Memory .means (c .args .a .now) .bit)

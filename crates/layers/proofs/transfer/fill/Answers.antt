@@ -1,7 +1,7 @@
 use mathlib.Core.Path.{refl}
 use native.Mathlib.Omega.{arith}
-use Rattle.piles.proofs.Filling.{filled-none, filled-more, filled-all}
-use Rattle.piles.proofs.users.fill.Needs as need
+use Rattle.layers.proofs.Filling.{filled-none, filled-more, filled-all}
+use Rattle.layers.proofs.transfer.fill.Needs as need
 
 pub loop-k-holds : need.loop-k-holds
 loop-k-holds g c = filled-none (g .M·Memory .means (c .args .m .now)) (λ j. c .args .v)
