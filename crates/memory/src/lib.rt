@@ -10,6 +10,7 @@ mod built_in;
 mod laws;
 mod lent_bytes;
 mod lent_words;
+mod owners;
 mod packing;
 
 pub use built_in::BuiltInCells;
@@ -19,6 +20,8 @@ pub use lent_bytes::ByteCells;
 pub use lent_bytes::ByteCellsMemory;
 pub use lent_words::WordCells;
 pub use lent_words::WordCellsMemory;
+pub use owners::knock_words;
+pub use owners::put_in_bytes;
 use refusal::Refusal;
 
 /// Cells that are read, written and knocked.
