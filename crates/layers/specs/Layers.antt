@@ -7,17 +7,19 @@ use Rattle.memory.specs.Mem.{Layout, Mem}
 use Rattle.memory.specs.Layered.{layered}
 use Rattle.memory.specs.Lines.{InLine, Interleaved}
 
--- THE INVERTER shows the opposite of each cell.
+-- The inverter shows the opposite of each cell.
 abbrev pub inverted : Mem → Mem
 inverted m = record { layout = m .layout; bit = λ k. not (m .bit k); held = m .held }
 
--- THE WINDOW shows the l cells from cell c on, of n; at least one.
+-- The window shows the l cells from cell c on. Its figures fit over n cells if there are so many, and at least one;
 abbrev pub WindowFits : ℕ → ℕ → ℕ → Type 0
 WindowFits c l n = (1 ≤ l) × (c + l ≤ n)
 
+-- as a test;
 abbrev pub windowTest : ℕ → ℕ → ℕ → Bool
 windowTest c l n = leb 1 l && leb (c + l) n
 
+-- where they do not fit, it has no cells.
 abbrev pub windowSize : ℕ → ℕ → ℕ → ℕ
 windowSize c l n = cond (windowTest c l n) l 0
 
@@ -33,14 +35,16 @@ pub record WindowLaws (c l : ℕ) (m : Mem) : Type 0 where
   pub place : (k : ℕ) → windowed c l m .layout .place k ≡ m .layout .place (c + k)
   pub line : InLine (m .layout) → InLine (windowed c l m .layout)
 
--- THE INTERLEAVER has rows of w cells, d rows to a group, and lays each group down column after column. Its n cells below are one or
--- more whole groups.
+-- The interleaver has rows of w cells, d rows to a group, and lays each group down column after column. Its figures fit over n cells
+-- if those are one or more whole groups, d is at most 16 and w at most 255;
 abbrev pub InterleaverFits : ℕ → ℕ → ℕ → Type 0
 InterleaverFits d w n = (1 ≤ d) × (d ≤ 16) × (1 ≤ w) × (w ≤ 255) × ((q : ℕ) × (1 ≤ q) × (n ≡ q * (d * w)))
 
+-- as a test;
 abbrev pub interleaverTest : ℕ → ℕ → ℕ → Bool
 interleaverTest d w n = leb 1 d && leb d 16 && leb 1 w && leb w 255 && leb 1 n && eqb (n % (d * w)) 0
 
+-- where they do not fit, it has no cells.
 abbrev pub interleaverSize : ℕ → ℕ → ℕ → ℕ
 interleaverSize d w n = cond (interleaverTest d w n) n 0
 
