@@ -52,13 +52,14 @@ module _ (j low : ℕ) (small : low < 2 ^ j) where
     unfolding bitSums
     past zero lt = absurd (omega arith)
     past (suc k) lt = elim (cases-eq k j) [
-        inl e ↦
+      | inl e ↦
           ap₂ (λ s b. bitXor s (cond b (P k) 0)) (up-to k (omega arith)) (ap (bitOf (2 ^ j + low)) e ∙ here)
           ∙ ap₂ (λ s p. bitXor s (P p)) (sym (ap (λ b. bitXor (sums low k) (cond b (P k) 0)) (low-clear k (omega arith)) ∙ xor-zero-r (sums low k))) e
       | inr ne ↦
           ap₂ (λ s b. bitXor s (cond b (P k) 0)) (past k (omega arith)) (elsewhere k ne ∙ low-clear k (omega arith))
           ∙ xor-zero-r (bitXor (sums low k) (P j))
-          ∙ ap (λ s. bitXor s (P j)) (sym (ap (λ b. bitXor (sums low k) (cond b (P k) 0)) (low-clear k (omega arith)) ∙ xor-zero-r (sums low k))) ]
+          ∙ ap (λ s. bitXor s (P j)) (sym (ap (λ b. bitXor (sums low k) (cond b (P k) 0)) (low-clear k (omega arith)) ∙ xor-zero-r (sums low k)))
+    ]
 
     pub with-bit : j < 8 → sums (2 ^ j + low) 8 ≡ bitXor (sums low 8) (P j)
     with-bit lt = past 8 lt
@@ -81,32 +82,36 @@ entry m i q v k lt e =
     ap₂ (λ q v. bitSums (house m) i q v 8) a b
 
 pub fill-zero-byte : (m i q : ℕ) (table : List ℕ) → Filled m i table (256 * q) → Filled m i table (256 * q + 1)
-fill-zero-byte m i q table f =
-    ((λ k lt. elim (cases-eq k (256 * q)) [
-        inl e ↦ f .1 k (omega arith) ∙ sym (entry m i q 0 k (omega arith) (omega arith) ∙ sums-zero m i q 8)
-      | inr ne ↦ f .0 k (omega arith) ]),
-     λ k le. f .1 k (omega arith))
+fill-zero-byte m i q table f = (
+  (λ k lt. elim (cases-eq k (256 * q)) [
+    | inl e ↦ f .1 k (omega arith) ∙ sym (entry m i q 0 k (omega arith) (omega arith) ∙ sums-zero m i q 8)
+    | inr ne ↦ f .0 k (omega arith)
+  ]),
+  λ k le. f .1 k (omega arith),
+)
 
 pub fill-byte : (m i q j high low x : ℕ) (table : List ℕ) → q < 32 → j < 8 → high ≡ 2 ^ j → low < high → length table ≡ 8192
-  → x ≡ power (house m) (i * (8 * q + j)) → Filled m i table (256 * q + high + low)
-  → Filled m i (set table (256 * q + high + low) (bitXor (getD table (256 * q + low) 0) x)) (256 * q + high + (low + 1))
+    → x ≡ power (house m) (i * (8 * q + j)) → Filled m i table (256 * q + high + low)
+    → Filled m i (set table (256 * q + high + low) (bitXor (getD table (256 * q + low) 0) x)) (256 * q + high + (low + 1))
 fill-byte m i q j high low x table hq hj eh lt len ex f =
     let at = 256 * q + high + low in
     let top : 2 ^ j ≤ 2 ^ 7 = pow-mono (let le : j ≤ 7 = omega arith in le) in
     let small : high + low < 256 = omega arith in
     let room : at < length table = omega arith in
     let value : bitXor (getD table (256 * q + low) 0) x ≡ bitSums (house m) i q (high + low) 8 =
-        ap₂ bitXor (f .0 (256 * q + low) (omega arith) ∙ entry m i q low (256 * q + low) (omega arith) refl) ex
-        ∙ sym (ap (λ h. bitSums (house m) i q (h + low) 8) eh ∙ with-bit j low (omega arith) m i q hj) in
-    ((λ k h. elim (cases-eq k at) [
-        inl e ↦ ap (λ z. getD (set table at (bitXor (getD table (256 * q + low) 0) x)) z 0) e ∙ getD-set-same table at _ 0 room ∙ value
-          ∙ sym (entry m i q (high + low) k small (omega arith))
-      | inr ne ↦ getD-set-other table at k _ 0 ne ∙ f .0 k (omega arith) ]),
-     λ k h. getD-set-other table at k _ 0 (let ne : k ≢ at = omega arith in ne) ∙ f .1 k (omega arith))
+    ap₂ bitXor (f .0 (256 * q + low) (omega arith) ∙ entry m i q low (256 * q + low) (omega arith) refl) ex
+    ∙ sym (ap (λ h. bitSums (house m) i q (h + low) 8) eh ∙ with-bit j low (omega arith) m i q hj) in (
+      (λ k h. elim (cases-eq k at) [
+        | inl e ↦ ap (λ z. getD (set table at (bitXor (getD table (256 * q + low) 0) x)) z 0) e ∙ getD-set-same table at _ 0 room ∙ value
+            ∙ sym (entry m i q (high + low) k small (omega arith))
+        | inr ne ↦ getD-set-other table at k _ 0 ne ∙ f .0 k (omega arith)
+      ]),
+      λ k h. getD-set-other table at k _ 0 (let ne : k ≢ at = omega arith in ne) ∙ f .1 k (omega arith),
+    )
 
 -- ---- the row
 sums-more : (m i q v : ℕ) (c : ℕ → Bool) → ((b : ℕ) → b < 8 → c (8 * q + b) ≡ bitOf v b) → (k : ℕ) → k ≤ 8
-  → powerSum (house m) i c (8 * q + k) ≡ bitXor (powerSum (house m) i c (8 * q)) (bitSums (house m) i q v k)
+    → powerSum (house m) i c (8 * q + k) ≡ bitXor (powerSum (house m) i c (8 * q)) (bitSums (house m) i q v k)
 unfolding powerSum bitSums
 sums-more m i q v c same zero le = ap (powerSum (house m) i c) (add-zero (8 * q)) ∙ sym (xor-zero-r (powerSum (house m) i c (8 * q)))
 sums-more m i q v c same (suc k) le =
@@ -116,8 +121,8 @@ sums-more m i q v c same (suc k) le =
 
 -- one byte more
 pub sum-byte : (m i q s : ℕ) (row table : List ℕ) → ((k : ℕ) → k < 8192 → getD table k 0 ≡ bitSums (house m) i (k / 256) (k % 256) 8)
-  → q < 32 → getD row q 0 < 256 → s ≡ powerSum (house m) i (bitAt 8 row) (8 * q)
-  → bitXor s (getD table (256 * q + getD row q 0) 0) ≡ powerSum (house m) i (bitAt 8 row) (8 * (q + 1))
+    → q < 32 → getD row q 0 < 256 → s ≡ powerSum (house m) i (bitAt 8 row) (8 * q)
+    → bitXor s (getD table (256 * q + getD row q 0) 0) ≡ powerSum (house m) i (bitAt 8 row) (8 * (q + 1))
 sum-byte m i q s row table t hq hv es =
     let v = getD row q 0 in
     let up : 8 * q + 8 ≡ 8 * (q + 1) = omega arith in

@@ -1,6 +1,5 @@
 //! What each byte of a row adds to a syndrome.
 ghost use Rattle.field.specs.Tables.{ByteSums};
-
 use crate::Field;
 use crate::shift::ShiftArithmetic;
 use crate::shift::ShiftField;

@@ -44,7 +44,14 @@ impl TableField {
         let first_sums = byte_sums(&base, 1);
         let third_sums = byte_sums(&base, 3);
         let fifth_sums = byte_sums(&base, 5);
-        TableField { base, powers, exponents, first_sums, third_sums, fifth_sums }
+        TableField {
+            base,
+            powers,
+            exponents,
+            first_sums,
+            third_sums,
+            fifth_sums,
+        }
     }
 }
 

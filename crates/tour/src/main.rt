@@ -31,7 +31,11 @@ fn show_value(rt: &LibcRuntime, f: &TableField, row: &[u8]) -> Result<(), AnyErr
     let mut data = [0u8; 2];
     extract(f, 1, row, &mut data)?;
     let value = u16::from_le_bytes(data);
-    println!(rt, "value      {value}, which is {} arcseconds", value as f64 / 64.0)?;
+    println!(
+        rt,
+        "value      {value}, which is {} arcseconds",
+        value as f64 / 64.0
+    )?;
     Ok(())
 }
 
@@ -46,7 +50,10 @@ fn repair(rt: &LibcRuntime, f: &TableField, row: &mut [u8]) -> Result<(), AnyErr
 
 fn main(rt: LibcRuntime) -> Result<(), AnyError> {
     let f = TableField::new(4);
-    println!(rt, "A row of 15 cells over the field of 16 elements: 4 check cells, then 11 data cells, lowest first.")?;
+    println!(
+        rt,
+        "A row of 15 cells over the field of 16 elements: 4 check cells, then 11 data cells, lowest first."
+    )?;
     let mut row = [0u8; 2];
     encode(&f, 1, &VALUE.to_le_bytes(), &mut row)?;
     show_value(&rt, &f, &row)?;

@@ -27,10 +27,12 @@ loop-j-holds c =
 pub loop-low-again : need.loop-low-again
 loop-low-again c =
     let l = c .loop-low in
-    let high = l .inv .1 in
-    (simp length-set (l .inv .0), l .inv .1,
-     fill-byte (c .args .base .now .m) (c .args .i) (c .loop-q .q) (c .loop-j .j) _ (l .low) (c .loop-j .x) (l .table) (c .loop-q-test .taken) (c .loop-j-test .taken)
-       (l .inv .1) (c .loop-low-test .taken) (l .inv .0) (c .loop-j .inv .1) (l .inv .2))
+    let high = l .inv .1 in (
+      simp length-set (l .inv .0),
+      l .inv .1,
+      fill-byte (c .args .base .now .m) (c .args .i) (c .loop-q .q) (c .loop-j .j) _ (l .low) (c .loop-j .x) (l .table) (c .loop-q-test .taken) (c .loop-j-test .taken)
+          (l .inv .1) (c .loop-low-test .taken) (l .inv .0) (c .loop-j .inv .1) (l .inv .2),
+    )
 
 pub loop-j-again : need.loop-j-again
 loop-j-again c =
@@ -43,8 +45,9 @@ loop-j-again c =
     let p = 8 * q + j in
     let up : suc p ≡ 8 * q + (j + 1) = omega arith in
     let more : i + i * p ≡ i * suc p = omega (arith, mul-suc i p) in
-    let double : 2 ^ (j + 1) ≡ 2 ^ j * 2 = ap (λ n. 2 ^ n) (add-one j) ∙ pow-suc 2 j in
-    (l .inv .0,
-     power-product (house m) (house-laws m (c .args .base .now .fit)) (c .power-step .result) (c .loop-j .x) (c .mul-x .result) i (i * p)
-       (c .power-step .ensures) (c .loop-j .inv .1) (c .mul-x .ensures) ∙ ap (power (house m)) (more ∙ ap (λ s. i * s) up),
-     subst (Filled m i (l .table)) (omega arith) (l .inv .2))
+    let double : 2 ^ (j + 1) ≡ 2 ^ j * 2 = ap (λ n. 2 ^ n) (add-one j) ∙ pow-suc 2 j in (
+      l .inv .0,
+      power-product (house m) (house-laws m (c .args .base .now .fit)) (c .power-step .result) (c .loop-j .x) (c .mul-x .result) i (i * p)
+          (c .power-step .ensures) (c .loop-j .inv .1) (c .mul-x .ensures) ∙ ap (power (house m)) (more ∙ ap (λ s. i * s) up),
+      subst (Filled m i (l .table)) (omega arith) (l .inv .2),
+    )

@@ -17,7 +17,8 @@ loop-q-again c =
     let row = c .args .row .now in
     let l = c .loop-q in
     let inside : l .q < 32 = omega arith in
-    let byte : getD row (l .q) 0 < 256 = omega (arith, c .typed .row (l .q)) in
-    (sum-byte m 1 (l .q) (l .s1) row (s .«first_sums») (s .summed .0) inside byte (l .inv .0),
-     sum-byte m 3 (l .q) (l .s3) row (s .«third_sums») (s .summed .1) inside byte (l .inv .1),
-     sum-byte m 5 (l .q) (l .s5) row (s .«fifth_sums») (s .summed .2) inside byte (l .inv .2))
+    let byte : getD row (l .q) 0 < 256 = omega (arith, c .typed .row (l .q)) in (
+      sum-byte m 1 (l .q) (l .s1) row (s .«first_sums») (s .summed .0) inside byte (l .inv .0),
+      sum-byte m 3 (l .q) (l .s3) row (s .«third_sums») (s .summed .1) inside byte (l .inv .1),
+      sum-byte m 5 (l .q) (l .s5) row (s .«fifth_sums») (s .summed .2) inside byte (l .inv .2),
+    )
