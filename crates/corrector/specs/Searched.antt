@@ -2,20 +2,24 @@
 use mathlib.Core.Path.{_≡_}
 use mathlib.Core.Bool.{Bool, _&&_, _||_}
 use mathlib.Core.List.{List}
-use Prim.Native.Nat.{ℕ, _≤_}
+use Prim.Native.Nat.{ℕ, _≤_, _<_}
 use lib.Dec.{eqb, ltb}
 use Rattle.std.specs.declared.option.Option.{Option}
 use Rattle.std.specs.declared.option.Option.the-variants.{Some, None}
 use Rattle.field.specs.declared.syndromes.Syndromes.{Syndromes}
 use Rattle.field.specs.Syndromes.{syndromesOf}
 use Rattle.bits.specs.Bits.{bitAt, Buffer}
-use Rattle.galois.specs.Model.{FieldModel, units}
+use Rattle.galois.specs.Model.{FieldModel, size, units}
 use Rattle.galois.specs.Rows.{Near, distance}
 use Rattle.bch.specs.Buffers.{shown}
 
 -- the first t of the syndromes S_1, S_3 and S_5 are zero: the row is a code row
 abbrev pub clean : ℕ → Syndromes → Bool
 clean t s = eqb (s .s1) 0 && (ltb t 2 || eqb (s .s3) 0) && (ltb t 3 || eqb (s .s5) 0)
+
+-- the syndromes are elements of the field
+abbrev pub Elements : FieldModel → Syndromes → Type 0
+Elements F s = (s .s1 < size F) × (s .s3 < size F) × (s .s5 < size F)
 
 -- the row is made the code row within t positions of it, and the answer is how many cells that turns; or there is none, and then nothing is
 -- said of what is left. No bit past the row changes

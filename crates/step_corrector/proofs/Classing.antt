@@ -21,7 +21,7 @@ use Rattle.corrector.specs.Searched.{clean}
 use Rattle.corrector.proofs.Framing.{clean-zeros}
 use Rattle.step_corrector.specs.declared.class.Class.{Class}
 use Rattle.step_corrector.specs.declared.class.Class.the-variants.{Clean, One, Two, Three, Beyond}
-use Rattle.step_corrector.specs.Classes.{number, classBy, classFor, falls, Elements}
+use Rattle.step_corrector.specs.Classes.{number, classBy, classFor, falls}
 
 by-one : (a d2 d3 : Bool) → number (classBy 1 (a && true && true) a d2 d3) ≡ cond a 0 1
 by-one true d2 d3 = refl

@@ -18,12 +18,12 @@ use Rattle.decoding.proofs.Shown.{classAt}
 use Rattle.decoding.proofs.Tracks.{track-within, found-near, none-near}
 use Rattle.decoding.proofs.StepSearch.{Steps, steps-start, steps-turn, steps-leave, steps-found, steps-none, beyond-none}
 use Rattle.decoding.proofs.Turning.{turned-turns, turned-back}
-use Rattle.corrector.specs.Searched.{Searched}
+use Rattle.corrector.specs.Searched.{Searched, Elements}
 use Rattle.corrector.proofs.Turned.{sums-turned}
 use Rattle.step_corrector.specs.declared.class.Class.{Class}
 use Rattle.step_corrector.specs.declared.class.Class.the-variants.{Clean, Beyond}
 use Rattle.step_corrector.specs.declared.trials.Standing.{Standing}
-use Rattle.step_corrector.specs.Classes.{number, falls, Elements}
+use Rattle.step_corrector.specs.Classes.{number, falls}
 use Rattle.step_corrector.specs.Trials.{Classed, Tried}
 use Rattle.step_corrector.proofs.Classing.{falls-true, falls-from, not-clean}
 

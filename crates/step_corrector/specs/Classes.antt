@@ -1,8 +1,8 @@
 -- The class of a row by t, by whether its first t syndromes are zero, and by which determinants vanish.
 use mathlib.Core.Bool.{Bool, true, false}
-use Prim.Native.Nat.{ℕ, zero, suc, _<_}
+use Prim.Native.Nat.{ℕ, zero, suc}
 use lib.Dec.{eqb}
-use Rattle.galois.specs.Model.{FieldModel, size}
+use Rattle.galois.specs.Model.{FieldModel}
 use Rattle.galois.specs.Ring.{numbers}
 use Rattle.galois.specs.Sums.{D2, D3}
 use Rattle.field.specs.declared.syndromes.Syndromes.{Syndromes}
@@ -32,10 +32,6 @@ classBy (suc (suc (suc zero))) false false false true = Two
 classBy (suc (suc (suc zero))) false d1 true false = Beyond
 classBy (suc (suc (suc zero))) false d1 false false = Three
 classBy (suc (suc (suc (suc t)))) false d1 d2 d3 = Beyond
-
--- the syndromes are elements of the field
-abbrev pub Elements : FieldModel → Syndromes → Type 0
-Elements F s = (s .s1 < size F) × (s .s3 < size F) × (s .s5 < size F)
 
 -- the class of syndromes: D1 is S_1, D2 and D3 are the determinants of them
 abbrev pub classFor : FieldModel → ℕ → Syndromes → Class

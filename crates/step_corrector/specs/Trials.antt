@@ -11,9 +11,10 @@ use Rattle.galois.specs.Rows.{Few}
 use Rattle.decoding.specs.Classes.{classOf}
 use Rattle.field.specs.declared.syndromes.Syndromes.{Syndromes}
 use Rattle.field.specs.Syndromes.{withTurn}
+use Rattle.corrector.specs.Searched.{Elements}
 use Rattle.step_corrector.specs.declared.class.Class.{Class}
 use Rattle.step_corrector.specs.declared.trials.Standing.{Standing}
-use Rattle.step_corrector.specs.Classes.{number, falls, Elements}
+use Rattle.step_corrector.specs.Classes.{number, falls}
 
 -- k is the class of the syndromes s
 abbrev pub Classed : FieldModel → ℕ → Syndromes → Class → Type 0

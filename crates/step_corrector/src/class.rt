@@ -2,7 +2,8 @@
 ghost use mathlib.Core.Path.{_≡_};
 ghost use Rattle.galois.specs.Rows.{Few};
 ghost use Rattle.decoding.specs.Classes.{classOf};
-ghost use Rattle.step_corrector.specs.Classes.{number, classBy, classFor, falls, Elements};
+ghost use Rattle.corrector.specs.Searched.{Elements};
+ghost use Rattle.step_corrector.specs.Classes.{number, classBy, classFor, falls};
 use corrector::is_clean;
 use field::Field;
 use field::Syndromes;

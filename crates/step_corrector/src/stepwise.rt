@@ -1,6 +1,7 @@
 //! The corrector itself: a field and a t.
 ghost use mathlib.Core.Path.{_≡_};
 ghost use Rattle.galois.specs.Rows.{Few};
+ghost use Rattle.corrector.specs.Corrected.{Strength};
 use crate::trials::search_by_steps;
 use bch::row_cells;
 use corrector::Corrector;
@@ -21,7 +22,7 @@ pub struct StepCorrector<F> {
 impl<F: Field> StepCorrector<F> {
     /// The corrector of t errors over a field; of one error where t does not fit.
     pub fn new(field: F, t: u8) -> Self
-        ensures { λ r. ⌜ (r .field ≡ field) × (Few t → r .t ≡ t) × ((Few t → ⊥) → r .t ≡ 1) ⌝ }
+        ensures { λ r. ⌜ (r .field ≡ field) × Strength t (r .t) ⌝ }
     {
         match t {
             1..=3 => StepCorrector { field, t },

@@ -1,6 +1,7 @@
 use mathlib.Core.Path.{_≡_, ap, _∙_}
 use Rattle.decoding.proofs.Computed.{second-is, third-is}
-use Rattle.step_corrector.specs.Classes.{number, classFor, Elements}
+use Rattle.corrector.specs.Searched.{Elements}
+use Rattle.step_corrector.specs.Classes.{number, classFor}
 use Rattle.step_corrector.proofs.Classing.{class-counts, listed as listed-is}
 use Rattle.step_corrector.proofs.class.class_of.Needs as need
 
