@@ -10,8 +10,12 @@ use Rattle.refusal.specs.declared.Refusal.{Refusal}
 use Rattle.refusal.specs.declared.Refusal.the-variants.{Length, UnusedBit, NoCodeRow}
 use Rattle.bits.specs.Bits.{Sized, Unused, Buffer}
 use Rattle.galois.specs.Model.{FieldModel, units}
-use Rattle.galois.specs.Rows.{Near, distance}
+use Rattle.galois.specs.Rows.{Few, Near, distance}
 use Rattle.bch.specs.Buffers.{shown}
+
+-- u is the t that is taken where t is asked for: t itself if it fits, else 1
+abbrev pub Strength : (t u : ℕ) → Type 0
+Strength t u = (Few t → u ≡ t) × ((Few t → ⊥) → u ≡ 1)
 
 -- the row is made the code row within t positions of it, and the answer is how many cells that turns; refused, and left as it was, where the
 -- buffer has the wrong length, then where an unused bit is set, then where no code row is that near

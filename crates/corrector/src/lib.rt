@@ -9,6 +9,16 @@ ghost use Rattle.corrector.specs.Corrected.{Corrected};
 use field::Field;
 use refusal::Refusal;
 
+pub mod comparison;
+pub mod frame;
+
+pub use comparison::Agreement;
+pub use comparison::agree;
+pub use comparison::corrections_agree;
+pub use frame::Search;
+pub use frame::correct_row;
+pub use frame::is_clean;
+
 /// A corrector is a field too: it answers its field's questions.
 pub trait Corrector: Field {
     ghost strength: { Self → ℕ };

@@ -96,7 +96,7 @@ module _ (F : FieldModel) (l : FieldLaws F) where
       divided : (a b r v : ℕ) (a′ b′ : Element F) → a ≡ a′ .0 → b ≡ b′ .0 → a ≢ 0 → IsInverse F (elem F a) r → v ≡ product-of F b r
           → (v < size F) × (F .mul a v ≡ b)
       divided a b r v a′ b′ ea eb nz inv ev =
-          let r′ : Element F = (r, inv .below F l) in
+          let r′ : Element F = (r, inv .below) in
           let z : elem F a ≡ a = ap (elem F) ea ∙ mod-eq-of-lt (a′ .1) ∙ sym ea in
           let pos : 0 < elem F a = omega arith in
           let one : ops F l .mul a′ r′ ≡ ops F l .e = same F _ (ops F l .e) (ap (λ y. F .mul y r) (sym (z ∙ ea)) ∙ inv .at-unit pos) in
@@ -112,7 +112,7 @@ module _ (F : FieldModel) (l : FieldLaws F) where
       -- for two where t is 2: D2 / S_1
       pub locates-two : (r r2 : ℕ) → IsInverse F (elem F s1) r → r2 ≡ product-of F d2 r → (r2 < size F) × Located 2 r2 0
       locates-two r r2 inv e = (
-        below F l r2 (ops F l .mul V (r, inv .below F l)) (product-is F l d2 r r2 V (r, inv .below F l) second refl e),
+        below F l r2 (ops F l .mul V (r, inv .below)) (product-is F l d2 r r2 V (r, inv .below) second refl e),
         (λ nz. divided s1 d2 r r2 A V refl second nz inv e .1 ∙ second-is, refl),
       )
 
