@@ -3,6 +3,11 @@ use bch::encode;
 use bch::extract;
 use bits::bit;
 use bits::turn_bit;
+use corrector::Corrector;
+use corrector::agree;
+use corrector::comparison::AgreementDebug;
+use direct_corrector::DirectCorrector;
+use direct_corrector::direct::DirectCorrection;
 use field::Field;
 use field::TableField;
 use field::table::TableArithmetic;
@@ -11,6 +16,9 @@ use refusal::RefusalDisplay;
 use refusal::RefusalError;
 use std::error::AnyError;
 use std::io;
+use step_corrector::StepCorrector;
+use step_corrector::stepwise::StepCorrection;
+use step_corrector::stepwise::StepField;
 
 /// An error of 12.5 arcseconds, in units of 1/64 arcsecond.
 const VALUE: u16 = 800;
@@ -39,12 +47,22 @@ fn show_value(rt: &LibcRuntime, f: &TableField, row: &[u8]) -> Result<(), AnyErr
     Ok(())
 }
 
-/// Finds the one turned cell of a row and turns it back: S_1 is alpha^p where position p alone is wrong.
-fn repair(rt: &LibcRuntime, f: &TableField, row: &mut [u8]) -> Result<(), AnyError> {
-    let sum = f.syndromes(row).s1;
-    let position = f.exponent(sum);
-    println!(rt, "syndrome   {sum}, which is alpha^{position}")?;
-    turn_bit(row, position as usize)?;
+/// Corrects a row step by step, and asks whether the direct corrector does the same.
+fn repair(rt: &LibcRuntime, row: &mut [u8]) -> Result<(), AnyError> {
+    let step = StepCorrector::new(TableField::new(4), 1);
+    let direct = DirectCorrector::new(TableField::new(4), 1);
+    let sum = step.syndromes(row).s1;
+    println!(
+        rt,
+        "syndrome   {sum}, which is alpha^{}",
+        step.exponent(sum)
+    )?;
+    let agreement = agree(&step, &direct, row);
+    let count = step.correct(row)?;
+    println!(
+        rt,
+        "corrected  {count} cell; the two correctors are {agreement:?}"
+    )?;
     Ok(())
 }
 
@@ -60,7 +78,7 @@ fn main(rt: LibcRuntime) -> Result<(), AnyError> {
     show(&rt, "row        ", &row)?;
     turn_bit(&mut row, 6)?;
     show(&rt, "turned     ", &row)?;
-    repair(&rt, &f, &mut row)?;
-    show(&rt, "corrected  ", &row)?;
+    repair(&rt, &mut row)?;
+    show(&rt, "row        ", &row)?;
     show_value(&rt, &f, &row)
 }
