@@ -1,0 +1,1 @@
+-- One mend after another.
