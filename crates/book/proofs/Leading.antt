@@ -90,11 +90,6 @@ module _ (b b′ : BookModel) (laws : FieldLaws (b .field)) (few : Few (b .stren
   unchanged : Unchanged (b .memory) (b′ .memory) → Same (setting b) (cell b) (cell b′)
   unchanged u c l = u .0 .1 c (omega (arith, rows-room b))
 
-  pub blank-led : b′ .memory .layout ≡ b .memory .layout → Laid 0 (rowsOf b * rowSize b) (λ _. false) (b .memory) (b′ .memory) → Led [] b′
-  blank-led e p =
-      subst (λ (s : Setting). Holds s [] (cell b′)) (sym (settings-same b b′ same e))
-      (carries .made (cell b′) (λ c l. let z : 0 + c ≡ c = omega arith in sym (ap (cell b′) z) ∙ p .here c l))
-
   pub write-leads : (U : Type 0) (r : ℕ) (bytes : List ℕ) (x : Result U Refusal) → Wrote b b′ r bytes x → Leads (write r bytes) b b′
   write-leads U r bytes (Ok u) m =
       let d = shown (dataSize b) bytes in
@@ -157,6 +152,9 @@ pub own-figures : (b : BookModel) → SameFigures b b
 own-figures b = record { field = refl; strength = refl; reach = refl; rows = refl }
 
 module _ (b : BookModel) (laws : FieldLaws (b .field)) (few : Few (b .strength)) where
+  pub blank-led : (m : Mem) → Blanked m b → Led [] b
+  blank-led m p = carries b b laws few (own-figures b) .made (cell b) (λ c l. let z : 0 + c ≡ c = omega arith in sym (ap (cell b) z) ∙ p .here c l)
+
   read-promise : (r : ℕ) (before after : List ℕ) (x : Result ℕ Refusal) → Looked b r before after x → ProperRead b r before → ReadPromise (setting b) r (cell b) (answered b after x)
   read-promise r before after (Ok count) m p =
       subst (λ (d : List Bool). ReadPromise (setting b) r (cell b) (some d)) (sym (m .3 .2))
@@ -182,3 +180,6 @@ kept-figures field corrector memory x y k = record {
 
 pub kept-self : {C M : Type 0} (x : Book C M) → Kept x x
 kept-self x = (refl, refl, refl)
+
+pub kept-on : {C M : Type 0} (x y z : Book C M) → Kept x y → Kept y z → Kept x z
+kept-on x y z k l = (l .0 ∙ k .0, l .1 ∙ k .1, l .2 ∙ k .2)

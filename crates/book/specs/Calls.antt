@@ -41,9 +41,9 @@ Found b r after (Err e) = (e ≡ NoCodeRow) × ((c : List Bool) → InReach b (r
 abbrev pub RowLaid : BookModel → BookModel → ℕ → List Bool → Type 0
 RowLaid b b′ r code = Laid (r * rowSize b) (rowSize b) (cellOf code) (b .memory) (b′ .memory)
 
--- MAKING BLANK: the cells of every row are zero, and nothing else changed
-abbrev pub Blanked : BookModel → BookModel → Type 0
-Blanked b b′ = Laid 0 (rowsOf b * rowSize b) (λ _. false) (b .memory) (b′ .memory)
+-- MAKING BLANK over the memory m: the cells of every row are zero, and nothing else changed
+abbrev pub Blanked : Mem → BookModel → Type 0
+Blanked m b = Laid 0 (rowsOf b * rowSize b) (λ _. false) m (b .memory)
 
 -- WRITE: the row is the systematic code row of the data in the buffer. Refused for a wrong row number, then for a wrong length, then for an
 -- unused bit that is set

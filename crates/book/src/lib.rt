@@ -4,6 +4,7 @@
 //! says exactly what it answers and which cells it leaves, on whatever memory and with whatever corrector; and for every list of calls that
 //! led to the book since it was made blank, what those calls allow it to promise (the crate `tally`). Figures that do not fit make a book of
 //! no rows.
+mod book_calls;
 mod figures;
 mod row_calls;
 
@@ -14,4 +15,12 @@ pub struct Book<C, M> {
     memory: M,
     reach: u8,
     rows: u32,
+}
+
+/// What a sweep did: how many rows it mended, how many had no code row within the reach, and how many cells turned.
+#[derive(Clone, Copy)]
+pub struct SweepCounts {
+    pub accepted: u32,
+    pub refused: u32,
+    pub turned: u32,
 }
