@@ -1,0 +1,4 @@
+pub mod Effective
+pub mod Correcting
+pub mod Leading
+pub mod Sweeping
