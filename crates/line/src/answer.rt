@@ -1,0 +1,71 @@
+//! The answers of the bench, and the text that is printed for each.
+ghost use mathlib.Core.Path.{_≡_};
+ghost use Prim.Native.Nat.{_<_};
+ghost use Rattle.line.specs.Answers.{textOf};
+ghost use Rattle.line.specs.Digits.{hexDigit};
+ghost use Rattle.std.specs.declared.option.Option.the-variants.{Some};
+use refusal::Refusal;
+use refusal::RefusalDebug;
+use refusal::RefusalEq;
+use refusal::RefusalPartialEq;
+use std::fmt;
+
+/// What came of a command.
+#[derive(Clone, Copy, PartialEq, Eq, Debug)]
+pub enum Answer {
+    /// A row was written, or a run of places knocked.
+    Done,
+    /// The byte of a row, and how many of its cells were corrected.
+    Read {
+        byte: u8,
+        count: u8,
+    },
+    /// How many cells of a row were mended.
+    Count(u8),
+    /// How many rows a sweep accepted and refused, and how many cells it turned.
+    Swept {
+        accepted: u16,
+        refused: u16,
+        turned: u32,
+    },
+    /// The line or its call was refused.
+    No(Refusal),
+}
+
+/// Prints the answer's text, which has no newline.
+pub impl fmt::Display for Answer as AnswerDisplay {
+    ghost shown = { λ a. Some (textOf a) };
+
+    fn fmt<W: fmt::Write>(&self, f: &mut fmt::Formatter<W>) -> fmt::Result {
+        match *self {
+            Answer::Done => write!(f, "ok"),
+            Answer::Read { byte, count } => {
+                let high = hex_digit(byte / 16);
+                let low = hex_digit(byte % 16);
+                write!(f, "{high}{low} {count}")
+            }
+            Answer::Count(count) => write!(f, "{count}"),
+            Answer::Swept {
+                accepted,
+                refused,
+                turned,
+            } => write!(f, "{accepted} {refused} {turned}"),
+            Answer::No(refusal) => {
+                let number = refusal.number();
+                write!(f, "no {number}")
+            }
+        }
+    }
+}
+
+/// The digit of a number below 16.
+fn hex_digit(x: u8) -> char
+    requires { ⌜ x < 16 ⌝ }
+    ensures { λ r. ⌜ r ≡ hexDigit x ⌝ }
+{
+    if x < 10 {
+        (b'0' + x) as char
+    } else {
+        (b'A' + (x - 10)) as char
+    }
+}
