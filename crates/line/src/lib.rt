@@ -8,8 +8,14 @@ mod fields;
 mod input;
 
 pub use answer::Answer;
+pub use answer::AnswerDebug;
 pub use answer::AnswerDisplay;
+pub use answer::AnswerEq;
+pub use answer::AnswerPartialEq;
 pub use command::Command;
+pub use command::CommandDebug;
+pub use command::CommandEq;
+pub use command::CommandPartialEq;
 pub use command::parse;
 pub use input::Lines;
 pub use input::LinesIterator;
