@@ -2,12 +2,17 @@
 ghost use mathlib.Core.Path.{_≡_};
 ghost use Prim.Native.Nat.{_<_};
 ghost use Rattle.line.specs.Answers.{textOf};
+ghost use Rattle.line.specs.Lines.{Lacks};
+ghost use Rattle.std.specs.Of.String.{string-bytes};
+ghost use Rattle.std.specs.Vec.{made};
 ghost use Rattle.line.specs.Digits.{hexDigit};
 ghost use Rattle.std.specs.declared.option.Option.the-variants.{Some};
 use refusal::Refusal;
 use refusal::RefusalDebug;
 use refusal::RefusalEq;
 use refusal::RefusalPartialEq;
+use std::alloc::AllocError;
+use std::alloc::Global;
 use std::fmt;
 
 /// What came of a command.
@@ -30,6 +35,16 @@ pub enum Answer {
     },
     /// The line or its call was refused.
     No(Refusal),
+}
+
+impl Answer {
+    /// The answer's text, which is what is printed for it. It is one line: no byte of it is a newline.
+    pub fn text(&self, heap: Global) -> Result<String, AllocError>
+        ensures bytes { λ r. ⌜ made r (λ t. string-bytes t ≡ textOf (now (self .entry))) ⌝ }
+        ensures line { λ _. ⌜ Lacks 10 (textOf (now (self .entry))) ⌝ }
+    {
+        self.to_string(heap)
+    }
 }
 
 /// Prints the answer's text, which has no newline.
