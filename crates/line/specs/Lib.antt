@@ -1,5 +1,4 @@
 pub mod Digits
 pub mod Spelling
-pub mod Answers
 pub mod Lines
 pub mod Steps

@@ -6,7 +6,7 @@ ghost use Rattle.line.specs.Steps.{Steps, remaining};
 use crate::fields::position;
 
 /// The lines of an input that are still to come.
-#[derive(Clone, Copy, Drop, Debug)]
+#[derive(Clone, Copy, Drop)]
 pub struct Lines<'a> {
     rest: &'a [u8],
 }

@@ -1,7 +1,7 @@
 //! Worked lines of the bench, from the standard input: each with the command that it spells, or with its refusal. Then answers of
 //! every kind. What must be printed was worked out by hand.
-use line::Answer;
-use line::AnswerDisplay;
+use answer::Answer;
+use answer::AnswerDisplay;
 use line::CommandDebug;
 use line::Lines;
 use line::LinesIterator;

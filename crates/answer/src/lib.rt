@@ -1,11 +1,13 @@
-//! The answers of the bench, and the text that is printed for each.
+//! The answers to the lines that drive a book, and the text that is printed for each.
+//!
+//! An answer prints exactly the bytes that `textOf` lists for it, and they are one line.
 ghost use mathlib.Core.Path.{_≡_};
 ghost use Prim.Native.Nat.{_<_};
-ghost use Rattle.line.specs.Answers.{textOf};
+ghost use Rattle.answer.specs.Text.{textOf};
 ghost use Rattle.line.specs.Lines.{Lacks};
 ghost use Rattle.std.specs.Of.String.{string-bytes};
 ghost use Rattle.std.specs.Vec.{made};
 ghost use Rattle.line.specs.Digits.{hexDigit};
 ghost use Rattle.std.specs.declared.option.Option.the-variants.{Some};
 use refusal::Refusal;
 use refusal::RefusalDebug;

@@ -4,9 +4,9 @@ use Prim.Native.Nat.{ℕ}
 use lib.Chars.{codes}
 use Rattle.std.specs.Written.{decimal}
 use Rattle.refusal.specs.Numbers.{numberOf}
-use Rattle.line.specs.declared.answer.Answer.{Answer}
-use Rattle.line.specs.declared.answer.Answer.the-variants.{Done, Read, Count, Swept, No}
+use Rattle.answer.specs.declared.Answer.{Answer}
+use Rattle.answer.specs.declared.Answer.the-variants.{Done, Read, Count, Swept, No}
 use Rattle.line.specs.Digits.{hexByte}
 
 -- Numbers are decimal without leading zeros, the byte of a row has two digits, and a refusal goes by its number.
 abbrev pub textOf : Answer → List ℕ

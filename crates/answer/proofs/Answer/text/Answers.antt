@@ -9,12 +9,12 @@ use borrow.Author.Needs.{needs}
 use Rattle.std.specs.Written as W
 use Rattle.std.proofs.shelf.Elements.{all-append}
 use Rattle.refusal.specs.Numbers.{numberOf}
-use Rattle.line.specs.Answers.{textOf}
+use Rattle.answer.specs.Text.{textOf}
 use Rattle.line.specs.Digits.{hexDigit}
 use Rattle.line.specs.Lines.{Lacks}
-use Rattle.line.specs.declared.answer.Answer.{Answer}
-use Rattle.line.specs.declared.answer.Answer.the-variants.{Done, Read, Count, Swept, No}
-use Rattle.line.proofs.answer.Answer.text.Needs as need
+use Rattle.answer.specs.declared.Answer.{Answer}
+use Rattle.answer.specs.declared.Answer.the-variants.{Done, Read, Count, Swept, No}
+use Rattle.answer.proofs.Answer.text.Needs as need
 
 digit : (n : ℕ) → W.glyph false (n % 10) ≡ 10 → ⊥
 digit n e = grind arith

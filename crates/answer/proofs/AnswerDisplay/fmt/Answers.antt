@@ -6,9 +6,9 @@ use native.Mathlib.Omega.{arith}
 use lib.Utf8.{encode}
 use Rattle.std.specs.Written as W
 use Rattle.std.proofs.shelf.Text.{encode-ascii}
-use Rattle.line.specs.Answers.{textOf}
+use Rattle.answer.specs.Text.{textOf}
 use Rattle.line.specs.Digits.{hexDigit}
-use Rattle.line.proofs.answer.AnswerDisplay.fmt.Needs as need
+use Rattle.answer.proofs.AnswerDisplay.fmt.Needs as need
 
 ascii : (x : ℕ) → x < 16 → hexDigit x < 128
 ascii x h = grind arith
