@@ -10,11 +10,7 @@ use lib.ListN.{length, getD, take, drop}
 use Rattle.std.specs.shelf.Lists.{All}
 use Rattle.std.proofs.shelf.Elements.{all-from-getD}
 use Rattle.std.proofs.shelf.Lists.{length-append, length-take-le, getD-at, getD-take, take-append-drop, drop-more}
-use Rattle.line.specs.Lines.{Lacks}
-
--- k is the index of the first w of s, or the length of s where there is none.
-abbrev pub First : ℕ → List ℕ → ℕ → Type 0
-First w s k = (k ≤ length s) × ((j : ℕ) → j < k → getD s j 0 ≡ w → ⊥) × (k < length s → getD s k 0 ≡ w)
+use Rattle.line.specs.Lines.{First, Lacks}
 
 -- What stands before it lacks w.
 pub front-lacks : (w : ℕ) (s : List ℕ) (k : ℕ) → First w s k → Lacks w (take k s)

@@ -9,8 +9,8 @@ use lib.Dec.{eqb}
 use lib.ListN.{length, take, drop}
 use Rattle.std.specs.shelf.Lists.{All}
 use Rattle.std.proofs.shelf.Lists.{take-all, drop-all}
-use Rattle.line.specs.Lines.{before, linesOf, Lacks, joined, ended, Cut}
-use Rattle.line.proofs.Cuts.{First, front-lacks, cut}
+use Rattle.line.specs.Lines.{First, before, linesOf, Lacks, joined, ended, Cut}
+use Rattle.line.proofs.Cuts.{front-lacks, cut}
 
 -- ---- the first line
 

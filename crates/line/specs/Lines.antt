@@ -2,8 +2,9 @@
 use mathlib.Core.Path.{_≡_}
 use mathlib.Core.Bool.{cond}
 use mathlib.Core.List.{List, [], _∷_, _++_}
-use Prim.Native.Nat.{ℕ}
+use Prim.Native.Nat.{ℕ, _≤_, _<_}
 use lib.Dec.{eqb}
+use lib.ListN.{length, getD}
 use Rattle.std.specs.shelf.Lists.{All}
 
 -- A byte in front of the first line; it is a line of its own where there is none.
@@ -36,3 +37,7 @@ pub record Cut (s : List ℕ) (ls : List (List ℕ)) : Type 0 where
   pub plain : All (Lacks 10) ls
   pub whole : joined ls ≡ ended s
   pub only : (ms : List (List ℕ)) → All (Lacks 10) ms → joined ms ≡ ended s → ms ≡ ls
+
+-- k is the index of the first w of s, or the length of s where there is none.
+abbrev pub First : ℕ → List ℕ → ℕ → Type 0
+First w s k = (k ≤ length s) × ((j : ℕ) → j < k → getD s j 0 ≡ w → ⊥) × (k < length s → getD s k 0 ≡ w)

@@ -1,15 +1,11 @@
 //! The fields of a line: decimal numbers, bytes, and the single space between two fields.
-ghost use mathlib.Core.Path.{_≡_};
-ghost use Prim.Native.Nat.{ℕ, _<_, _≤_};
-ghost use lib.ListN.{length, getD};
+ghost use Rattle.line.specs.Lines.{First};
 ghost use Rattle.line.specs.Spelling.{HexDigit, HexNumeral, Leads, Numeral, Reads};
 use refusal::Refusal;
 
 /// The index of the first byte that is `wanted`, or the length where none is.
 pub(crate) fn position(bytes: &[u8], wanted: u8) -> usize
-    ensures within { λ r. ⌜ r ≤ length (now (bytes .entry)) ⌝ }
-    ensures before { λ r. ⌜ ((k : ℕ) → k < r → getD (now (bytes .entry)) k 0 ≡ wanted → ⊥) ⌝ }
-    ensures found { λ r. ⌜ (r < length (now (bytes .entry)) → getD (now (bytes .entry)) r 0 ≡ wanted) ⌝ }
+    ensures { λ r. ⌜ First wanted (now (bytes .entry)) r ⌝ }
 {
     for (i, byte) in bytes.iter().enumerate() {
         if *byte == wanted {

@@ -1,7 +1,9 @@
 //! Input cut into lines.
 ghost use mathlib.Core.Path.{_≡_};
+ghost use Prim.Native.Nat.{_<_};
+ghost use Rattle.std.specs.Options.{Cases as BySome};
 ghost use lib.ListN.{length};
-ghost use Rattle.line.specs.Lines.{Cut, linesOf};
+ghost use Rattle.line.specs.Lines.{Cut, First, linesOf};
 ghost use Rattle.line.specs.Steps.{Steps, remaining};
 use crate::fields::position;
 
@@ -33,15 +35,23 @@ pub impl<'a> Iterator for Lines<'a> as LinesIterator {
 
     fn next(&mut self) -> Option<&'a [u8]> {
         let input = self.rest;
-        if input.is_empty() {
-            return None;
-        }
-        let end = position(input, b'\n');
+        let end = line_end(input)?;
         self.rest = if end < input.len() {
             &input[end + 1..]
         } else {
             &input[end..]
         };
         Some(&input[0..end])
+    }
+}
+
+/// Where the first line ends; `None` where no line is left.
+fn line_end(input: &[u8]) -> Option<usize>
+    ensures { λ r. ⌜ BySome r (length (now (input .entry)) ≡ 0) (λ end. (0 < length (now (input .entry))) × First 10 (now (input .entry)) end) ⌝ }
+{
+    if input.is_empty() {
+        None
+    } else {
+        Some(position(input, b'\n'))
     }
 }

@@ -6,8 +6,9 @@ use native.Mathlib.Omega.{arith}
 use lib.ListN.{length, take, drop}
 use Rattle.std.proofs.shelf.Lists.{take-rest}
 use Rattle.std.proofs.shelf.Results.{err-from-errBy}
+use Rattle.line.specs.Lines.{First}
 use Rattle.line.specs.Spelling.{Numeral}
-use Rattle.line.proofs.Cuts.{First, front-lacks, cut, inside, front, front-is}
+use Rattle.line.proofs.Cuts.{front-lacks, cut, inside, front, front-is}
 use Rattle.line.proofs.Numerals.{no-space}
 use Rattle.line.proofs.fields.split_number.Needs as need
 
@@ -22,7 +23,7 @@ pub returns-then-space-fields : need.returns-then-space-fields
 returns-then-space-fields c = (
   refl,
   λ t u n h e.
-      inside 32 (c .args .fields .now) (c .position-space .result) (c .position-space .ensures .within, c .position-space .ensures .before, c .position-space .ensures .found) t u e (omega arith),
+      inside 32 (c .args .fields .now) (c .position-space .result) (c .position-space .ensures) t u e (omega arith),
 )
 
 pub returns-in-Break-number : need.returns-in-Break-number
@@ -33,8 +34,7 @@ returns-in-Break-number c =
     let z : k ≡ k - 0 = omega arith in
     let l : k < length s = omega arith in
     let r = c .in-Break-number .ensures tt in
-    let f : First 32 s k = (c .position-space .ensures .within, c .position-space .ensures .before, c .position-space .ensures .found) in
-    rw (p .1, p .2) (r .0, λ t u n h e. r .1 n (subst (λ (j : ℕ). Numeral (take j s) n) z (first-field s k f l t u n h e)))
+    rw (p .1, p .2) (r .0, λ t u n h e. r .1 n (subst (λ (j : ℕ). Numeral (take j s) n) z (first-field s k (c .position-space .ensures) l t u n h e)))
 
 pub returns : need.returns
 returns c =
@@ -42,5 +42,4 @@ returns c =
     let k = c .position-space .result in
     let z : k - 0 ≡ k = omega arith in
     let l : k < length s = omega arith in
-    let f : First 32 s k = (c .position-space .ensures .within, c .position-space .ensures .before, c .position-space .ensures .found) in
-    (take k s, subst (λ (j : ℕ). Numeral (take j s) (c .in-Continue-number .number)) z (c .in-Continue-number .ensures tt), cut 32 s k f l ∙ ap (λ (x : List ℕ). take k s ++ (32 ∷ x)) (sym (take-rest s (k + 1))))
+    (take k s, subst (λ (j : ℕ). Numeral (take j s) (c .in-Continue-number .number)) z (c .in-Continue-number .ensures tt), cut 32 s k (c .position-space .ensures) l ∙ ap (λ (x : List ℕ). take k s ++ (32 ∷ x)) (sym (take-rest s (k + 1))))

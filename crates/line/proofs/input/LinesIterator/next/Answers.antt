@@ -8,28 +8,26 @@ use denote.Ref.{RefT}
 use lib.ListN.{length, take, drop}
 use Rattle.std.proofs.shelf.Lists.{nil-from-length, take-rest}
 use Rattle.line.specs.Lines.{linesOf}
-use Rattle.line.proofs.Cuts.{First}
 use Rattle.line.proofs.Joined.{step-cut, step-last}
 use Rattle.line.proofs.input.LinesIterator.next.Needs as need
 use Rattle.line.proofs.input.LinesIterator.next.Needs.{then-end-input, else-end-input}
 
-pub returns-then-is-empty : need.returns-then-is-empty
-returns-then-is-empty c =
-    let n : length (c .args .self .now .rest .now) ≡ 0 = search needs in
-    record { steps = (ap linesOf (nil-from-length _ n), refl); goes = search needs }
+pub returns-in-Break-end : need.returns-in-Break-end
+returns-in-Break-end c =
+    let n = c .in-Break-end .ensures tt in
+    rw (c .from-residual .ensures) (record { steps = (ap linesOf (nil-from-length _ n), refl); goes = record { on = λ _. tt } })
 
 pub returns : need.returns
 returns c =
     let s = c .args .self .now .rest .now in
-    let k = c .position-end .result in
-    let f : First 10 s k = (c .position-end .ensures .within, c .position-end .ensures .before, c .position-end .ensures .found) in
-    let h : 0 < length s = search needs in
+    let k = c .in-Continue-end .end in
+    let f = c .in-Continue-end .ensures tt in
     let z : k ≡ k - 0 = omega arith in
     elim (c .if-end-input .came) [
       | then-end-input w ↦
           let e : c .if-end-input .self .now ≡ drop (k + 1) s = ap (λ (x : RefT (List ℕ)). x .now) (w .self-is) ∙ take-rest s (k + 1) in
-          record { steps = step-cut s k f (w .if-end-input .taken) ∙ (λ i. take (z i) s ∷ linesOf (sym e i)); goes = search needs }
+          record { steps = step-cut s k (f .1) (w .if-end-input .taken) ∙ (λ i. take (z i) s ∷ linesOf (sym e i)); goes = search needs }
       | else-end-input w ↦
           let e : c .if-end-input .self .now ≡ drop k s = ap (λ (x : RefT (List ℕ)). x .now) (w .self-is) ∙ take-rest s k in
-          record { steps = step-last s k f h (w .if-end-input .left) ∙ (λ i. take (z i) s ∷ linesOf (sym e i)); goes = search needs }
+          record { steps = step-last s k (f .1) (f .0) (w .if-end-input .left) ∙ (λ i. take (z i) s ∷ linesOf (sym e i)); goes = search needs }
     ]
