@@ -37,7 +37,7 @@ pub fn parse(line: &[u8]) -> Result<Command, Refusal>
     command_of(line)
 }
 
-/// The same, without the laws.
+/// The command of the line's letter, if the fields are right. Whoever calls `parse` has the laws too.
 fn command_of(line: &[u8]) -> Result<Command, Refusal>
     ensures { λ r. ⌜ Reads (Spells (now (line .entry))) r ⌝ }
 {
