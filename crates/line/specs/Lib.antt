@@ -1,0 +1,4 @@
+pub mod Digits
+pub mod Spelling
+pub mod Lines
+pub mod Steps
