@@ -37,4 +37,4 @@ pub returns : need.returns
 returns c =
     let s = c .args .field .now in
     let e : take (c .loop-digit .digit-index) s ≡ s = take-all (c .loop-digit .digit-index) s (c .loop-digit-test .left) in
-    (search needs, c .if-field-gt5 .left, subst (All Digit) e (c .loop-digit .inv .0), c .loop-digit .inv .1 ∙ ap value e)
+    (search needs, omega arith, subst (All Digit) e (c .loop-digit .inv .0), c .loop-digit .inv .1 ∙ ap value e)
