@@ -23,9 +23,9 @@ use Rattle.corrector.proofs.Turned.{sums-turned}
 use Rattle.step_corrector.specs.declared.class.Class.{Class}
 use Rattle.step_corrector.specs.declared.class.Class.the-variants.{Clean, Beyond}
 use Rattle.step_corrector.specs.declared.trials.Standing.{Standing}
-use Rattle.step_corrector.specs.Classes.{number, falls}
+use Rattle.step_corrector.specs.Classes.{number, classFor, falls}
 use Rattle.step_corrector.specs.Trials.{Classed, Tried}
-use Rattle.step_corrector.proofs.Classing.{falls-true, falls-from, not-clean}
+use Rattle.step_corrector.proofs.Classing.{class-counts, falls-true, falls-from, not-clean}
 
 -- a turn that is not kept is turned back
 pub comes-back : (row mid after : List ℕ) (p q : ℕ) → p < 8 * length row → mid ≡ turnedAt 8 row p → q ≡ p → after ≡ turnedAt 8 mid q → after ≡ row
@@ -68,26 +68,30 @@ module _ (F : FieldModel) (l : FieldLaws F) (t : ℕ) (few : Few t) where
     pub known-turn : (kept now′ : Standing) (count′ : ℕ) → count′ ≡ count + 1 → now′ ≡ kept → Tried F t row after p x now (Some kept)
         → Known F t start after (p + 1) count′ now′
     known-turn kept now′ count′ en es′ (er, es, ec, fall) =
-        let f = falls-true (now .class) (kept .class) fall in
+        let all : Elements F (kept .sums) = subst (Elements F) (sym (es ∙ turned-sums)) (elements (bitAt 8 (turnedAt 8 row p))) in
+        let f = falls-true (now .class) (kept .class) (ap (falls (now .class)) (ec all) ∙ fall all) in
         named count′ (count + 1) now′ kept en es′
         (subst (λ r. Known F t start r (p + 1) (count + 1) kept) (sym er)
         (record {
           sums = es ∙ turned-sums;
           steps =
               steps-turn F l t few (bitAt 8 start) (bitAt 8 row) (bitAt 8 (turnedAt 8 row p)) p count (number (now .class)) (number (kept .class)) (K .steps) lt
-              (turned-turns row p room) (classed-at _ (kept .sums) (kept .class) (es ∙ turned-sums) ec) (f .0) (f .1);
+              (turned-turns row p room) (classed-at _ (kept .sums) (kept .class) (es ∙ turned-sums) (λ few h. ap number (ec h) ∙ class-counts F l t (kept .sums) few)) (f .0) (f .1);
         }))
 
     pub known-leave : (now′ : Standing) (count′ : ℕ) → count′ ≡ count → now′ ≡ now → Tried F t row after p x now None
         → Known F t start after (p + 1) count′ now′
-    known-leave now′ count′ en es′ (er, (k, ec, stays)) =
+    known-leave now′ count′ en es′ (er, stays) =
+        let k = classFor F t out in
+        let all : Elements F out = subst (Elements F) (sym turned-sums) (elements (bitAt 8 (turnedAt 8 row p))) in
         named count′ count now′ now en es′
         (subst (λ r. Known F t start r (p + 1) count now) (sym er)
         (record {
           sums = K .sums;
           steps =
               steps-leave F l t few (bitAt 8 start) (bitAt 8 row) (bitAt 8 (turnedAt 8 row p)) p count (number (now .class)) (number k) (K .steps) lt
-              (turned-turns row p room) (classed-at _ out k turned-sums ec) (λ e u. both-ways (falls (now .class) k) stays (falls-from (now .class) k e u));
+              (turned-turns row p room) (classed-at _ out k turned-sums (λ few _. class-counts F l t out few))
+              (λ e u. both-ways (falls (now .class) k) (stays all) (falls-from (now .class) k e u));
         }))
 
   module _ (start row : List ℕ) (p count : ℕ) (now : Standing) (K : Known F t start row p count now) (le : p ≤ units F) where

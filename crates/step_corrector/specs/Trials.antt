@@ -14,7 +14,7 @@ use Rattle.field.specs.Syndromes.{withTurn}
 use Rattle.corrector.specs.Searched.{Elements}
 use Rattle.step_corrector.specs.declared.class.Class.{Class}
 use Rattle.step_corrector.specs.declared.trials.Standing.{Standing}
-use Rattle.step_corrector.specs.Classes.{number, falls}
+use Rattle.step_corrector.specs.Classes.{number, classFor, falls}
 
 -- k is the class of the syndromes s
 abbrev pub Classed : FieldModel → ℕ → Syndromes → Class → Type 0
@@ -23,7 +23,7 @@ Classed F t s k = Few t → Elements F s → number k ≡ classOf F t (s .s1) (s
 -- the turn is kept where the class falls by one, and then this is how the row stands; else the row is as it was
 abbrev pub Tried : FieldModel → ℕ → (row after : List ℕ) (p x : ℕ) (before : Standing) → Option Standing → Type 0
 Tried F t row after p x before (Some kept) =
-    (after ≡ turnedAt 8 row p) × (kept .sums ≡ withTurn F (before .sums) x) × Classed F t (kept .sums) (kept .class)
-    × (falls (before .class) (kept .class) ≡ true)
+    (after ≡ turnedAt 8 row p) × (kept .sums ≡ withTurn F (before .sums) x) × (Elements F (kept .sums) → kept .class ≡ classFor F t (kept .sums))
+    × (Elements F (kept .sums) → falls (before .class) (classFor F t (kept .sums)) ≡ true)
 Tried F t row after p x before None =
-    (after ≡ row) × ((k : Class) × Classed F t (withTurn F (before .sums) x) k × (falls (before .class) k ≡ false))
+    (after ≡ row) × (Elements F (withTurn F (before .sums) x) → falls (before .class) (classFor F t (withTurn F (before .sums) x)) ≡ false)

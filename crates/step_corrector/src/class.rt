@@ -65,8 +65,19 @@ fn class_by(t: u8, clean: bool, d: Vanishing) -> Class
     }
 }
 
+/// Whether a class falls by exactly one to that of the syndromes. One error less than one is a code row, which is told without determinants.
+pub(crate) fn falls_to<F: Field>(f: &F, t: u8, before: Class, sums: Syndromes) -> bool
+    ensures { λ r. ⌜ (Elements (F·Field .model (now (f .entry))) sums → r ≡ falls before (classFor (F·Field .model (now (f .entry))) t sums)) ⌝ }
+{
+    match before {
+        Class::One => is_clean(sums, t),
+        Class::Two | Class::Three => falls_by_one(before, class_of(f, t, sums)),
+        _ => false,
+    }
+}
+
 /// Whether a class falls by exactly one; from beyond none does.
-pub(crate) fn falls_by_one(before: Class, after: Class) -> bool
+fn falls_by_one(before: Class, after: Class) -> bool
     ensures { λ r. ⌜ r ≡ falls before after ⌝ }
 {
     match (before, after) {

@@ -10,7 +10,7 @@ ghost use Rattle.corrector.specs.Searched.{Searched};
 ghost use Rattle.step_corrector.specs.Trials.{Tried};
 use crate::class::Class;
 use crate::class::class_of;
-use crate::class::falls_by_one;
+use crate::class::falls_to;
 use crate::trial::Trial;
 use field::Field;
 use field::Syndromes;
@@ -37,10 +37,12 @@ fn try_position<F: Field>(
 {
     let trial = Trial::new(row, position);
     let sums = f.turned(before.sums, x);
-    let class = class_of(f, t, sums);
-    if falls_by_one(before.class, class) {
+    if falls_to(f, t, before.class, sums) {
         trial.keep();
-        return Some(Standing { sums, class });
+        return Some(Standing {
+            sums,
+            class: class_of(f, t, sums),
+        });
     }
     None
 }
