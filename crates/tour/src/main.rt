@@ -1,84 +1,99 @@
-//! The shortest demonstration: one value laid into a row, one cell turned over, found again and corrected.
-use bch::encode;
-use bch::extract;
-use bits::bit;
-use bits::turn_bit;
-use corrector::Corrector;
-use corrector::agree;
-use corrector::comparison::AgreementDebug;
+//! The shortest demonstration: two values written into a coded book, a burst of turned cells, and both read back, mended and swept.
+use book::Book;
 use direct_corrector::DirectCorrector;
 use direct_corrector::direct::DirectCorrection;
-use field::Field;
+use entry::arcseconds;
+use entry::entry_of;
+use entry::from_bytes;
+use entry::to_bytes;
 use field::TableField;
 use field::table::TableArithmetic;
+use layers::Interleaver;
+use layers::InterleaverMemory;
+use layers::Window;
+use layers::WindowMemory;
+use memory::BuiltInCells;
+use memory::BuiltInCellsMemory;
+use memory::Memory;
 use refusal::RefusalDebug;
 use refusal::RefusalDisplay;
 use refusal::RefusalError;
 use std::error::AnyError;
-use std::io;
-use step_corrector::StepCorrector;
-use step_corrector::stepwise::StepCorrection;
-use step_corrector::stepwise::StepField;
 
-/// An error of 12.5 arcseconds, in units of 1/64 arcsecond.
-const VALUE: u16 = 800;
+type Cells = Interleaver<Window<BuiltInCells>>;
 
-/// Prints the 15 cells of a row, the 4 check cells apart.
-fn show(rt: &LibcRuntime, name: &str, row: &[u8]) -> io::Result<()> {
-    print!(rt, "{name}")?;
-    for p in 0..15 {
-        let gap = if p == 4 { " " } else { "" };
-        let cell = u8::from(bit(row, p).unwrap_or(false));
-        print!(rt, "{gap}{cell}")?;
-    }
-    println!(rt, "")
+type TourBook = Book<DirectCorrector<TableField>, Cells>;
+
+/// A row has 31 cells: 10 check cells, then 21 data cells, the lowest first.
+const ROW: u32 = 31;
+
+const CHECKS: u32 = 10;
+
+fn write(rt: &LibcRuntime, book: &mut TourBook, row: u32, value: f64) -> Result<(), AnyError> {
+    let [low, high] = to_bytes(entry_of(value)?);
+    book.write(row, &[low, high, 0])?;
+    println!(rt, "write      row {row}: {value} arcseconds, ok")?;
+    Ok(())
 }
 
-/// Takes the data out of a row and prints the value that they are.
-fn show_value(rt: &LibcRuntime, f: &TableField, row: &[u8]) -> Result<(), AnyError> {
-    let mut data = [0u8; 2];
-    extract(f, 1, row, &mut data)?;
-    let value = u16::from_le_bytes(data);
+fn read(rt: &LibcRuntime, book: &TourBook, row: u32) -> Result<(), AnyError> {
+    let mut data = [0u8; 3];
+    let count = book.read(row, &mut data)?;
+    let value = arcseconds(from_bytes([data[0], data[1]]));
     println!(
         rt,
-        "value      {value}, which is {} arcseconds",
-        value as f64 / 64.0
+        "read       row {row}: {value} arcseconds, {count} cells differ"
     )?;
     Ok(())
 }
 
-/// Corrects a row step by step, and asks whether the direct corrector does the same.
-fn repair(rt: &LibcRuntime, row: &mut [u8]) -> Result<(), AnyError> {
-    let step = StepCorrector::new(TableField::new(4), 1);
-    let direct = DirectCorrector::new(TableField::new(4), 1);
-    let sum = step.syndromes(row).s1;
+/// Prints the cells of a row as they are, the check cells apart.
+fn show(rt: &LibcRuntime, book: &TourBook, row: u32) -> Result<(), AnyError> {
+    print!(rt, "row {row}      ")?;
+    for p in 0..ROW {
+        let gap = if p == CHECKS { " " } else { "" };
+        let cell = u8::from(book.memory().get(row.wrapping_mul(ROW).wrapping_add(p))?);
+        print!(rt, "{gap}{cell}")?;
+    }
+    println!(rt, "")?;
+    Ok(())
+}
+
+fn damage(rt: &LibcRuntime, book: &mut TourBook) -> Result<(), AnyError> {
+    book.knock(20, 4)?;
+    println!(rt, "knock      4 places from place 20 on: ok")?;
+    Ok(())
+}
+
+fn repair(rt: &LibcRuntime, book: &mut TourBook) -> Result<(), AnyError> {
+    let turned = book.mend(0)?;
+    println!(rt, "mend       row 0: {turned} cells turned")?;
+    let swept = book.sweep();
     println!(
         rt,
-        "syndrome   {sum}, which is alpha^{}",
-        step.exponent(sum)
-    )?;
-    let agreement = agree(&step, &direct, row);
-    let count = step.correct(row)?;
-    println!(
-        rt,
-        "corrected  {count} cell; the two correctors are {agreement:?}"
+        "sweep      {} rows mended, {} refused, {} cells turned",
+        swept.accepted, swept.refused, swept.turned
     )?;
     Ok(())
 }
 
 fn main(rt: LibcRuntime) -> Result<(), AnyError> {
-    let f = TableField::new(4);
     println!(
         rt,
-        "A row of 15 cells over the field of 16 elements: 4 check cells, then 11 data cells, lowest first."
+        "A book of 2 rows over 62 interleaved cells: a row has 10 check cells and 21 data cells, and 2 turned cells of it are corrected."
     )?;
-    let mut row = [0u8; 2];
-    encode(&f, 1, &VALUE.to_le_bytes(), &mut row)?;
-    show_value(&rt, &f, &row)?;
-    show(&rt, "row        ", &row)?;
-    turn_bit(&mut row, 6)?;
-    show(&rt, "turned     ", &row)?;
-    repair(&rt, &mut row)?;
-    show(&rt, "row        ", &row)?;
-    show_value(&rt, &f, &row)
+    let cells = Interleaver::new(Window::new(BuiltInCells::new(), 0, 62), 2, 31);
+    let mut book = Book::blank(DirectCorrector::new(TableField::new(5), 2), cells, 2, 2);
+    write(&rt, &mut book, 0, 12.5)?;
+    write(&rt, &mut book, 1, -3.25)?;
+    show(&rt, &book, 0)?;
+    show(&rt, &book, 1)?;
+    damage(&rt, &mut book)?;
+    show(&rt, &book, 0)?;
+    show(&rt, &book, 1)?;
+    read(&rt, &book, 0)?;
+    read(&rt, &book, 1)?;
+    repair(&rt, &mut book)?;
+    read(&rt, &book, 0)?;
+    read(&rt, &book, 1)
 }
