@@ -29,9 +29,9 @@ impl<C: Corrector, M: Memory> Book<C, M> {
             return Err(Refusal::Row);
         }
         let mut buffer = [0u8; 32];
-        let cells = &mut buffer[0..(row_cells(&self.corrector) as usize + 7) / 8];
-        encode(&self.corrector, self.corrector.corrects(), bytes, cells)?;
-        self.lay(row, cells);
+        let code_row = &mut buffer[0..(row_cells(&self.corrector) as usize + 7) / 8];
+        encode(&self.corrector, self.corrector.corrects(), bytes, code_row)?;
+        self.lay(row, code_row);
         Ok(())
     }
 
@@ -48,9 +48,9 @@ impl<C: Corrector, M: Memory> Book<C, M> {
         }
         let mut buffer = [0u8; 32];
         let cells = &mut buffer[0..(row_cells(&self.corrector) as usize + 7) / 8];
-        let count = self.corrected(row, cells)?;
+        let differing = self.corrected(row, cells)?;
         extract(&self.corrector, self.corrector.corrects(), cells, bytes)?;
-        Ok(count)
+        Ok(differing)
     }
 
     /// Makes a row the only code row within s positions of it, check cells too, and answers how many cells that turned. Refused with 6 for a
@@ -64,9 +64,9 @@ impl<C: Corrector, M: Memory> Book<C, M> {
         }
         let mut buffer = [0u8; 32];
         let cells = &mut buffer[0..(row_cells(&self.corrector) as usize + 7) / 8];
-        let count = self.corrected(row, cells)?;
+        let turned = self.corrected(row, cells)?;
         self.lay(row, cells);
-        Ok(count)
+        Ok(turned)
     }
 
     /// A copy of a row in `cells`, made the code row within the reach, and how many cells that turned.

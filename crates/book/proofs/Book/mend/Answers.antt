@@ -25,8 +25,8 @@ returns-then-row-rows g c =
           (no-row-mend b (c .args .row) (c .rows .result) (c .rows .ensures) (c .if-row-rows .taken));
     }
 
-pub returns-in-Break-count : need.returns-in-Break-count
-returns-in-Break-count g c =
+pub returns-in-Break-turned : need.returns-in-Break-turned
+returns-in-Break-turned g c =
     let b = meaning (g .C·Field) (g .C·Corrector) (g .M·Memory) (c .args .self .now) in
     let laws = g .C·Field .lawful (c .args .self .now .corrector) in
     let few = g .C·Corrector .few (c .args .self .now .corrector) in
@@ -35,8 +35,8 @@ returns-in-Break-count g c =
     record {
       kept = kept-self (c .args .self .now);
       call = subst (λ (a : Result ℕ Refusal). MendCall b b (c .args .row) a) (sym (p .1 ∙ ap Err (p .2)))
-          (mend-call b b laws few (own-figures b) (c .args .row) (Err (c .in-Break-count .field-0 .0))
-          (not-mended b b (c .args .row) (c .corrected .last .cells) (c .in-Break-count .field-0 .0) l (c .in-Break-count .ensures tt) (as-was (b .memory))));
+          (mend-call b b laws few (own-figures b) (c .args .row) (Err (c .in-Break-turned .field-0 .0))
+          (not-mended b b (c .args .row) (c .corrected .last .cells) (c .in-Break-turned .field-0 .0) l (c .in-Break-turned .ensures tt) (as-was (b .memory))));
     }
 
 pub returns : need.returns
@@ -48,6 +48,6 @@ returns g c =
     let l : c .args .row < rowsOf b = omega (arith, c .rows .ensures, c .if-row-rows .left) in
     record {
       kept = c .lay .ensures .kept;
-      call = mend-call b b′ laws few (kept-figures (g .C·Field) (g .C·Corrector) (g .M·Memory) (c .args .self .now) (c .lay .last .self) (c .lay .ensures .kept)) (c .args .row) (Ok (c .in-Continue-count .count))
-          (mended b b′ (c .args .row) (c .corrected .last .cells) (c .in-Continue-count .count) l (c .in-Continue-count .ensures tt) (c .lay .ensures .laid));
+      call = mend-call b b′ laws few (kept-figures (g .C·Field) (g .C·Corrector) (g .M·Memory) (c .args .self .now) (c .lay .last .self) (c .lay .ensures .kept)) (c .args .row) (Ok (c .in-Continue-turned .turned))
+          (mended b b′ (c .args .row) (c .corrected .last .cells) (c .in-Continue-turned .turned) l (c .in-Continue-turned .ensures tt) (c .lay .ensures .laid));
     }

@@ -31,17 +31,17 @@ returns-then-bytes-data-cells g c =
     read-call b laws few (c .args .row) (c .args .bytes .now) (c .args .bytes .now) (Err Length)
     (unsized b (c .args .row) (c .args .bytes .now) l (c .data-cells .result) (c .data-cells .ensures) (c .if-bytes-data-cells .taken))
 
-pub returns-in-Break-count : need.returns-in-Break-count
-returns-in-Break-count g c =
+pub returns-in-Break-differing : need.returns-in-Break-differing
+returns-in-Break-differing g c =
     let b = meaning (g .C·Field) (g .C·Corrector) (g .M·Memory) (c .args .self .now) in
     let laws = g .C·Field .lawful (c .args .self .now .corrector) in
     let few = g .C·Corrector .few (c .args .self .now .corrector) in
     let l : c .args .row < rowsOf b = omega (arith, c .rows .ensures, c .if-row-rows .left) in
     let p = err-from-errBy (c .from-residual .result) (c .from-residual .ensures .1) in
     subst (λ (a : Result ℕ Refusal). ReadCall b (c .args .row) (c .args .bytes .now) (c .args .bytes .now) a) (sym (p .1 ∙ ap Err (p .2)))
-    (read-call b laws few (c .args .row) (c .args .bytes .now) (c .args .bytes .now) (Err (c .in-Break-count .field-0 .0))
+    (read-call b laws few (c .args .row) (c .args .bytes .now) (c .args .bytes .now) (Err (c .in-Break-differing .field-0 .0))
     (not-found b (c .args .row) (c .args .bytes .now) l (c .data-cells .result) (c .data-cells .ensures) (c .if-bytes-data-cells .left)
-    (c .corrected .last .cells) (c .in-Break-count .field-0 .0) (c .in-Break-count .ensures tt)))
+    (c .corrected .last .cells) (c .in-Break-differing .field-0 .0) (c .in-Break-differing .ensures tt)))
 
 pub returns-in-Break-extract : need.returns-in-Break-extract
 returns-in-Break-extract g c =
@@ -50,8 +50,8 @@ returns-in-Break-extract g c =
     let few = g .C·Corrector .few (c .args .self .now .corrector) in
     let l : c .args .row < rowsOf b = omega (arith, c .rows .ensures, c .if-row-rows .left) in
     absurd (always-extracted b (c .args .row) (c .args .bytes .now) l (c .data-cells .result) (c .data-cells .ensures) (c .if-bytes-data-cells .left)
-    (Unit {0}) (c .corrects .result) (c .corrected .last .cells) (c .extract .last .«data») (c .in-Continue-count .count) (c .in-Break-extract .field-0 .0)
-    (c .corrects .ensures) few (c .in-Continue-count .ensures tt) (c .in-Break-extract .ensures tt))
+    (Unit {0}) (c .corrects .result) (c .corrected .last .cells) (c .extract .last .«data») (c .in-Continue-differing .differing) (c .in-Break-extract .field-0 .0)
+    (c .corrects .ensures) few (c .in-Continue-differing .ensures tt) (c .in-Break-extract .ensures tt))
 
 pub returns : need.returns
 returns g c =
@@ -59,7 +59,7 @@ returns g c =
     let laws = g .C·Field .lawful (c .args .self .now .corrector) in
     let few = g .C·Corrector .few (c .args .self .now .corrector) in
     let l : c .args .row < rowsOf b = omega (arith, c .rows .ensures, c .if-row-rows .left) in
-    read-call b laws few (c .args .row) (c .args .bytes .now) (c .extract .last .«data») (Ok (c .in-Continue-count .count))
+    read-call b laws few (c .args .row) (c .args .bytes .now) (c .extract .last .«data») (Ok (c .in-Continue-differing .differing))
     (looked b (c .args .row) (c .args .bytes .now) l (c .data-cells .result) (c .data-cells .ensures) (c .if-bytes-data-cells .left)
-    (Unit {0}) (c .corrects .result) (c .corrected .last .cells) (c .extract .last .«data») (c .in-Continue-count .count) _ (c .corrects .ensures)
-    (c .in-Continue-count .ensures tt) (c .in-Continue-extract .ensures tt))
+    (Unit {0}) (c .corrects .result) (c .corrected .last .cells) (c .extract .last .«data») (c .in-Continue-differing .differing) _ (c .corrects .ensures)
+    (c .in-Continue-differing .ensures tt) (c .in-Continue-extract .ensures tt))
