@@ -1,102 +1,92 @@
 //! The shortest demonstration: one value laid into a row, one cell turned over, found again and corrected.
+use bch::encode;
+use bch::extract;
+use bits::bit;
+use bits::turn_bit;
+use corrector::Corrector;
 use field::Field;
 use field::TableField;
 use field::table::TableArithmetic;
+use refusal::Refusal;
+use refusal::RefusalDisplay;
 use std::io;
+use step_corrector::StepCorrector;
+use step_corrector::stepwise::StepCorrection;
+use step_corrector::stepwise::StepField;
 
-/// The positions of a row over the field of 16 elements, and how many of them, the lowest, are check cells where one error is corrected.
-const POSITIONS: usize = 15;
+/// The cells of a row over the field of 16 elements, and how many of them, the lowest, are check cells where one error is corrected.
+const CELLS: usize = 15;
 
 const CHECKS: usize = 4;
 
 /// An error of 12.5 arcseconds, in units of 1/64 arcsecond.
 const VALUE: u16 = 800;
 
-type Row = [bool; POSITIONS];
-
-/// The row that holds the low 11 bits of a value above its check cells, which are clear.
-fn laid(value: u16) -> Row {
-    let mut row = [false; POSITIONS];
-    let mut left = value;
-    for p in CHECKS..POSITIONS {
-        row[p] = left % 2 == 1;
-        left /= 2;
-    }
-    row
+/// What can stop the tour.
+enum Fault {
+    Output(io::Error),
+    Refused(Refusal),
 }
 
-/// The value that the data cells hold.
-fn value_of(row: &Row) -> u16 {
-    let mut value = 0u16;
-    for p in CHECKS..POSITIONS {
-        if row[p] {
-            value |= 1 << (p - CHECKS);
-        }
-    }
-    value
-}
-
-/// The sum of alpha^p over the set positions p: zero for a code row, and alpha^p where position p alone is wrong.
-fn power_sum(f: &TableField, row: &Row) -> u8 {
-    let mut sum = 0;
-    let mut power = 1;
-    for cell in row {
-        if *cell {
-            sum = f.add(sum, power);
-        }
-        power = f.mul(power, f.alpha());
-    }
-    sum
-}
-
-/// Sets the check cells so that the power sum is zero: alpha^0 to alpha^3 are the numbers 1, 2, 4 and 8.
-fn set_checks(f: &TableField, row: &mut Row) {
-    let mut sum = power_sum(f, row);
-    for p in 0..CHECKS {
-        row[p] = sum % 2 == 1;
-        sum /= 2;
+impl From<io::Error> for Fault as FaultFromOutput {
+    fn from(e: io::Error) -> Fault {
+        Fault::Output(e)
     }
 }
 
-fn show(rt: &LibcRuntime, name: &str, row: &Row) -> io::Result<()> {
+impl From<Refusal> for Fault as FaultFromRefusal {
+    fn from(r: Refusal) -> Fault {
+        Fault::Refused(r)
+    }
+}
+
+fn show(rt: &LibcRuntime, name: &str, row: &[u8]) -> Result<(), Fault> {
     print!(rt, "{name}")?;
-    for (p, cell) in row.iter().enumerate() {
+    for p in 0..CELLS {
         if p == CHECKS {
             print!(rt, " ")?;
         }
-        print!(rt, "{}", u8::from(*cell))?;
+        print!(rt, "{}", u8::from(bit(row, p)?))?;
     }
-    println!(rt, "")
+    println!(rt, "")?;
+    Ok(())
 }
 
-fn show_value(rt: &LibcRuntime, row: &Row) -> io::Result<()> {
-    let value = value_of(row);
+fn show_value(rt: &LibcRuntime, value: u16) -> Result<(), Fault> {
     println!(
         rt,
         "value      {value}, which is {} arcseconds",
         value as f64 / 64.0
-    )
+    )?;
+    Ok(())
 }
 
-fn main(rt: LibcRuntime) -> io::Result<()> {
-    let f = TableField::new(4);
+fn tour(rt: &LibcRuntime) -> Result<(), Fault> {
+    let c = StepCorrector::new(TableField::new(4), 1);
     println!(
         rt,
         "A row of 15 cells over the field of 16 elements: 4 check cells, then 11 data cells, lowest first."
     )?;
-    let mut row = laid(VALUE);
-    show_value(&rt, &row)?;
-    show(&rt, "data       ", &row)?;
-    set_checks(&f, &mut row);
-    show(&rt, "row        ", &row)?;
-    row[6] = !row[6];
-    show(&rt, "turned     ", &row)?;
-    let sum = power_sum(&f, &row);
-    let found = f.exponent(sum) as usize;
-    println!(rt, "power sum  {sum}, which is alpha^{found}")?;
-    if found < POSITIONS {
-        row[found] = !row[found];
+    show_value(rt, VALUE)?;
+    let mut row = [0u8; 2];
+    encode(&c, c.corrects(), &VALUE.to_le_bytes(), &mut row)?;
+    show(rt, "row        ", &row)?;
+    turn_bit(&mut row, 6)?;
+    show(rt, "turned     ", &row)?;
+    let sum = c.syndromes(&row).s1;
+    println!(rt, "syndrome   {sum}, which is alpha^{}", c.exponent(sum))?;
+    let count = c.correct(&mut row)?;
+    println!(rt, "corrected  {count}")?;
+    show(rt, "row        ", &row)?;
+    let mut data = [0u8; 2];
+    extract(&c, c.corrects(), &row, &mut data)?;
+    show_value(rt, u16::from_le_bytes(data))
+}
+
+fn main(rt: LibcRuntime) -> io::Result<()> {
+    match tour(&rt) {
+        Ok(()) => Ok(()),
+        Err(Fault::Output(e)) => Err(e),
+        Err(Fault::Refused(r)) => println!(rt, "refused: {r}"),
     }
-    show(&rt, "corrected  ", &row)?;
-    show_value(&rt, &row)
 }
