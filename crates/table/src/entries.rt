@@ -36,7 +36,7 @@ impl<C: Corrector, M: Memory> Table<C, M> {
         ensures call { λ r. ⌜ Put (meaning C·Field C·Corrector M·Memory (now (self .entry) .book)) (meaning C·Field C·Corrector M·Memory (now (self .exit) .book)) (now (self .entry) .entries) i value r ⌝ }
         ensures history { λ _. ⌜ ReadLeads (meaning C·Field C·Corrector M·Memory (now (self .entry) .book)) i ⌝ }
     {
-        let (row, index) = self.place(i)?;
+        let (row, index) = self.place(i)?; // before the value: the lowest refusal that applies is given
         let entry = entry_of(value)?;
         let mut buffer = [0u8; 32];
         let bytes = &mut buffer[0..(self.book.data_cells() as usize + 7) / 8];
