@@ -1,0 +1,4 @@
+pub mod Placing
+pub mod Reading
+pub mod Putting
+pub mod Looking
