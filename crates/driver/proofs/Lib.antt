@@ -1,3 +1,4 @@
 mod Buffers
 mod Telling
 mod Driving
+mod Running

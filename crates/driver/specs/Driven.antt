@@ -1,11 +1,10 @@
 -- What a line does to a book, and what is answered: b is the book before, b′ the book after.
 use mathlib.Core.Path.{_≡_}
 use mathlib.Core.List.{List, [], _∷_}
+use mathlib.Core.Logic.{_⊎_}
 use Prim.Native.Nat.{ℕ}
 use Rattle.refusal.specs.declared.Refusal.the-variants.{Line}
-use Rattle.tally.specs.Tally.{Call, write, read, mend, sweep, knock}
 use Rattle.book.specs.Model.{BookModel}
-use Rattle.book.specs.Calls.{Leads}
 use Rattle.book.specs.Promised.{WriteCall, ReadCall, MendCall, SweepCall, KnockCall}
 use Rattle.line.specs.declared.command.Command.{Command}
 use Rattle.line.specs.declared.command.Command.the-variants.{Write, Read, Knock, Mend, Sweep}
@@ -23,17 +22,14 @@ Made b b′ (Knock from len) a = Finished (KnockCall b b′ from len) a
 Made b b′ (Mend row) a = Counted (MendCall b b′ row) a
 Made b b′ Sweep a = Surveyed (SweepCall b b′) a
 
--- The call that a command stands for, as histories name it.
-abbrev pub callOf : Command → Call
-callOf (Write row byte) = write row (byte ∷ [])
-callOf (Read row) = read row 1
-callOf (Knock from len) = knock from len
-callOf (Mend row) = mend row
-callOf Sweep = sweep
+-- A LINE that was run: it spells a command, and that was made; or it spells none, is refused with 1, and the book is as it was.
+abbrev pub Driven : BookModel → BookModel → List ℕ → Answer → Type 0
+Driven b b′ line a =
+    ((c : Command) × Spells line c × Made b b′ c a) ⊎ (((c : Command) → Spells line c → ⊥) × (a ≡ No Line) × (b′ ≡ b))
 
--- A LINE that was run: the command that it spells was made; where it spells none, it is refused with 1 and the book is as it was. Whatever
--- calls led to the book before, they and the one that the line spells lead to the book after.
-pub record Driven (b b′ : BookModel) (line : List ℕ) (a : Answer) : Type 0 where
-  pub command : (c : Command) → Spells line c → Made b b′ c a
-  pub other : ((c : Command) → Spells line c → ⊥) → (a ≡ No Line) × (b′ ≡ b)
-  pub history : (c : Command) → Spells line c → Leads (callOf c) b b′
+-- LINES that were run one after another: each from the book that the one before left, and each with one answer.
+abbrev pub Ran : BookModel → BookModel → List (List ℕ) → List Answer → Type 0
+Ran b b′ [] [] = b′ ≡ b
+Ran b b′ [] (a ∷ rest) = ⊥
+Ran b b′ (line ∷ lines) [] = ⊥
+Ran b b′ (line ∷ lines) (a ∷ rest) = (m : BookModel) × Driven b m line a × Ran m b′ lines rest

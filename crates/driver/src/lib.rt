@@ -6,4 +6,5 @@ mod commands;
 mod lines;
 
 pub use commands::run_command;
+pub use lines::run;
 pub use lines::run_line;
