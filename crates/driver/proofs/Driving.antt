@@ -38,6 +38,6 @@ ran-leads b b′ [] [] e h led = (h, refl, subst (λ (x : BookModel). Led h x) (
 ran-leads b b′ [] (a ∷ rest) e h led = absurd e
 ran-leads b b′ (s ∷ lines) [] e h led = absurd e
 ran-leads b b′ (s ∷ lines) (a ∷ rest) e h led =
-    let w = line-leads b (e .0) s a (e .1) h led in
-    let v = ran-leads (e .0) b′ lines rest (e .2) (w .0) (w .2) in
+    let w = line-leads b (e .0) s a (e .2) h led in
+    let v = ran-leads (e .0) b′ lines rest (e .3) (w .0) (w .2) in
     (v .0, (w .0, w .1, v .1), v .2)

@@ -27,9 +27,13 @@ abbrev pub Driven : BookModel → BookModel → List ℕ → Answer → Type 0
 Driven b b′ line a =
     ((c : Command) × Spells line c × Made b b′ c a) ⊎ (((c : Command) → Spells line c → ⊥) × (a ≡ No Line) × (b′ ≡ b))
 
+-- the field, t, the reach and the number of rows stay as they are
+abbrev pub SameFigures : BookModel → BookModel → Type 0
+SameFigures b b′ = (b′ .field ≡ b .field) × (b′ .strength ≡ b .strength) × (b′ .reach ≡ b .reach) × (b′ .rows ≡ b .rows)
+
 -- LINES that were run one after another: each from the book that the one before left, and each with one answer.
 abbrev pub Ran : BookModel → BookModel → List (List ℕ) → List Answer → Type 0
 Ran b b′ [] [] = b′ ≡ b
 Ran b b′ [] (a ∷ rest) = ⊥
 Ran b b′ (line ∷ lines) [] = ⊥
-Ran b b′ (line ∷ lines) (a ∷ rest) = (m : BookModel) × Driven b m line a × Ran m b′ lines rest
+Ran b b′ (line ∷ lines) (a ∷ rest) = (m : BookModel) × SameFigures b m × Driven b m line a × Ran m b′ lines rest

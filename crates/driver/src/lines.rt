@@ -18,7 +18,12 @@ use std::alloc::AllocError;
 use std::alloc::Global;
 
 /// Runs the lines of an input one after another, and gives their answers in order.
-pub fn run<C: Corrector, M: Memory>(book: &mut Book<C, M>, input: &[u8], heap: Global) -> Result<Vec<Answer>, AllocError>
+pub fn run<C: Corrector, M: Memory>(
+    book: &mut Book<C, M>,
+    input: &[u8],
+    heap: Global,
+) -> Result<Vec<Answer>, AllocError>
+    ensures kept { λ _. ⌜ Kept (now (book .entry)) (now (book .exit)) ⌝ }
     ensures answers { λ r. ⌜ made r (λ answers. Ran (meaning C·Field C·Corrector M·Memory (now (book .entry))) (meaning C·Field C·Corrector M·Memory (now (book .exit))) (linesOf (now (input .entry))) (vec-items answers)) ⌝ }
     ensures history { λ r. ⌜ made r (λ _. LeadsOn (meaning C·Field C·Corrector M·Memory (now (book .entry))) (meaning C·Field C·Corrector M·Memory (now (book .exit))) (linesOf (now (input .entry)))) ⌝ }
 {
