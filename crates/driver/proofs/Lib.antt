@@ -1,0 +1,4 @@
+mod Buffers
+mod Telling
+mod Driving
+mod Running

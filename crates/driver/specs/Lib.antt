@@ -1,0 +1,3 @@
+pub mod Answered
+pub mod Driven
+pub mod History
