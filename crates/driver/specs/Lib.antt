@@ -1,3 +1,4 @@
 pub mod Answered
 pub mod Driven
 pub mod History
+pub mod Runs
