@@ -1,6 +1,8 @@
 //! The answers to the lines that drive a book, and the text that is printed for each.
 //!
 //! An answer prints exactly the bytes that `text_of` lists for it, and they are one line.
+#![tactic(auto)]
+
 ghost use Rattle.std.specs.Prelude.{◌≡◌, ◌<◌, IfOk, Some, string_bytes};
 ghost use Rattle.answer.specs.Text.{text_of};
 ghost use Rattle.line.specs.Lines.{Lacks};

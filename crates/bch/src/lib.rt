@@ -2,6 +2,8 @@
 //!
 //! A row has n = 2^m - 1 cells: n - k check cells, then k data cells. `encode` leaves in a buffer the one code row of some data, which is
 //! the published systematic row: data * x^(n-k) plus its remainder by the generator polynomial.
+#![tactic(auto)]
+
 pub mod encoder;
 pub mod generator;
 pub mod sizes;

@@ -1,5 +1,7 @@
 //! The bench: a book driven by lines of text. Each line of the standard input is one command and gets one line as its answer, whatever it
 //! holds. What happens between reading and printing is `run` of the crate `driver`.
+#![tactic(auto)]
+
 use book::Book;
 use corrector::Corrector;
 use driver::run;

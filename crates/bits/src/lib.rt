@@ -1,6 +1,8 @@
 //! Bits in buffers of bytes: bit j is bit j mod 8, 0 the least, of byte j div 8.
 //!
 //! A buffer for n bits has (n + 7) div 8 bytes, and its unused high bits are zero.
+#![tactic(auto)]
+
 ghost use Rattle.std.specs.Prelude.{◌≡◌, ℕ, ◌+◌, ◌-◌, ◌*◌, ◌<◌, ◌≤◌, false, not, length};
 ghost use Rattle.bits.specs.Bits.{bit_at, turned_at};
 ghost use Rattle.bits.specs.Calls.{Got, Changed, Admitted};

@@ -4,6 +4,8 @@
 //! says exactly what it answers and which cells it leaves, on whatever memory and with whatever corrector; and for every list of calls that
 //! led to the book since it was made blank, what those calls allow it to promise (the crate `tally`). Figures that do not fit make a book of
 //! no rows.
+#![tactic(auto)]
+
 mod book_calls;
 mod figures;
 mod row_calls;

@@ -1,5 +1,7 @@
 //! Both correctors for m = 4 on all 32,768 rows and for every t, beside a table of nearest code rows that is made another way: the code rows are
 //! the multiples of the generator polynomial, found by long division, and the nearest is found by counting.
+#![tactic(auto)]
+
 use corrector::{Agreement, Corrector, agree};
 use direct_corrector::DirectCorrector;
 use field::{ShiftField, TableField};

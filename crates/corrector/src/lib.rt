@@ -2,6 +2,8 @@
 //!
 //! A corrector means one field and one t, which never change. What `correct` does is settled by that meaning alone (`Corrected`); only the
 //! way in which a corrector finds the code row is its own.
+#![tactic(auto)]
+
 ghost use Rattle.std.specs.Prelude.{◌≡◌, ℕ};
 ghost use Rattle.galois.specs.Rows.{Few};
 ghost use Rattle.corrector.specs.Corrected.{Corrected};

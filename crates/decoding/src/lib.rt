@@ -1,6 +1,8 @@
 //! The mathematics of the correctors: what the power sums of a row tell of the code row near it.
 //!
 //! There is no code here but functions that carry theorems: the contract of each is the theorem, so that the check asks for its proof.
+#![tactic(auto)]
+
 ghost use Rattle.std.specs.Prelude.{ℕ};
 ghost use Rattle.galois.specs.Model.{FieldModel, FieldLaws};
 ghost use Rattle.galois.specs.Rows.{Few};

@@ -1,4 +1,6 @@
 //! Worked cases of the numbers of a gear table, one to a line. What must be printed was worked out with exact fractions.
+#![tactic(auto)]
+
 use entry::{Position, arcseconds, blend, entry_of, from_bytes, locate, next_index, to_bytes};
 use std::io;
 

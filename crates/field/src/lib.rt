@@ -3,6 +3,8 @@
 //! A field says by its ghost member `model` what it means: m, all sums and products, and alpha; and by `lawful` that the laws of a field
 //! hold of that. Everything above rests on the model and the laws alone, so that a field of one's own serves as well as ours.
 //! `ShiftField` and `TableField` are the house fields: two ways of working, one meaning, `house m`.
+#![tactic(auto)]
+
 ghost use Rattle.std.specs.Prelude.{◌≡◌, ◌*◌, length};
 ghost use Rattle.bits.specs.Bits.{bit_at};
 ghost use Rattle.galois.specs.Model.{FieldModel, FieldLaws, IsInverse, IsExponent, elem, sum_of, product-of};

@@ -1,4 +1,6 @@
 //! The two house fields beside each other, and beside a product by long division: every degree, every pair of bytes.
+#![tactic(auto)]
+
 use field::{Field, ShiftField, TableField};
 use std::io;
 

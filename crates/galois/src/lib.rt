@@ -2,6 +2,8 @@
 //! lie apart.
 //!
 //! There is no code here but functions that carry theorems: the contract of each is the theorem, so that the check asks for its proof.
+#![tactic(auto)]
+
 ghost use Rattle.std.specs.Prelude.{ℕ};
 ghost use Rattle.galois.specs.Consequences.{Consequences};
 ghost use Rattle.galois.specs.House.{Fit, HouseField};

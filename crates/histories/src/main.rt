@@ -1,5 +1,7 @@
 //! One list of calls on several books: fields of 16 and 256 elements, both correctors, reaches at and below t, and piles of layers over all
 //! three bottoms. Each call is printed with its answer.
+#![tactic(auto)]
+
 use book::Book;
 use corrector::Corrector;
 use direct_corrector::DirectCorrector;

@@ -2,6 +2,8 @@
 //!
 //! `make` does what the call on the book does, with the same contract. `replay` carries the theorem for whole runs: whatever the calls,
 //! accepted or refused, the rows end as the tally of those calls has them, and every answer on the way is as promised after the calls before it.
+#![tactic(auto)]
+
 ghost use Rattle.std.specs.Prelude.{◌≡◌, List, Result};
 ghost use Rattle.refusal.specs.declared.Refusal.{Refusal};
 ghost use Rattle.book.specs.Model.{BookModel, data_size};

@@ -3,6 +3,8 @@
 //! A layer holds the memory below by value and is a memory again, with the places of the cells that it shows and the span below;
 //! knocks are passed down. Its figures are tested at each call: where they do not fit, the layer has no cells. `fill` and `copy` are
 //! users of any memory that need nothing but the trait.
+#![tactic(auto)]
+
 mod interleaver;
 mod inverter;
 mod transfer;

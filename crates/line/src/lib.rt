@@ -2,6 +2,8 @@
 //!
 //! `parse` answers a command exactly when the line is one of its spellings, and refuses every other line. `Lines` gives the lines of
 //! any input, each once and in order.
+#![tactic(auto)]
+
 mod command;
 mod fields;
 mod input;

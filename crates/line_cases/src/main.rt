@@ -1,5 +1,7 @@
 //! Worked lines of the bench, from the standard input: each with the command that it spells, or with its refusal. Then answers of
 //! every kind. What must be printed was worked out by hand.
+#![tactic(auto)]
+
 use answer::Answer;
 use line::{Lines, parse};
 use refusal::Refusal;

@@ -3,6 +3,8 @@
 //! A memory has N cells, each at a place of its own below the span P. Cells are read and written by number; a knock turns the
 //! cells at a run of places. Every memory keeps N, P and its places for ever, with N ≤ P ≤ 262144. A call with a number outside is
 //! refused with `Refusal::Cell` and changes nothing.
+#![tactic(auto)]
+
 ghost use Rattle.std.specs.Prelude.{◌≡◌};
 ghost use Rattle.memory.specs.Mem.{Layout, Mem, Sound, Got, Placed, Put, Knocked};
 

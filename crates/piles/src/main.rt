@@ -1,5 +1,7 @@
 //! Piles of memories: every bottom, every layer over every bottom, several layers over one another, figures that do not fit, and the
 //! limits. Each call is shown with its answer and the cells that it leaves; after a pile has gone, the slice that it was lent is shown.
+#![tactic(auto)]
+
 use page::Page;
 use std::io;
 use std::io::Write;

@@ -2,6 +2,8 @@
 //!
 //! Every call that can decline answers `Result<_, Refusal>`. A call tests what applies to it in the order of the numbers and
 //! gives the first that is met; a refusal leaves every cell, buffer and book as it was.
+#![tactic(auto)]
+
 ghost use Rattle.std.specs.Prelude.{◌≡◌, Some};
 ghost use Rattle.refusal.specs.Numbers.{number_of, reason_of};
 

@@ -2,6 +2,8 @@
 //!
 //! A row is a run of cells; a buffer shows it, bit j the cell at position j. Every move changes what it names and nothing else: no further
 //! cell of the memory, and none of its bottom that layers hide.
+#![tactic(auto)]
+
 ghost use Rattle.std.specs.Prelude.{◌≡◌, ℕ, ◌+◌, ◌≤◌, false, length};
 ghost use Rattle.memory.specs.Mem.{Layout, Mem};
 ghost use Rattle.rows.specs.Laid.{RunFits, Gathered, Scattered, Zeroed};

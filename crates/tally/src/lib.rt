@@ -2,6 +2,8 @@
 //!
 //! There is nothing to run here. Each function carries a theorem on its contract: the laws of damage over every code whose rows lie far
 //! enough apart, that what each call does to the cells carries the promises, and that the codes of the fields are such codes.
+#![tactic(auto)]
+
 ghost use Rattle.tally.specs.Damage.{DamageLaws};
 ghost use Rattle.tally.specs.Fields.{FieldCodes};
 ghost use Rattle.tally.specs.Promises.{CallLaws};

@@ -1,4 +1,6 @@
 //! The shortest demonstration: two values written into a coded book, a burst of turned cells, and both read back, mended and swept.
+#![tactic(auto)]
+
 use book::Book;
 use direct_corrector::DirectCorrector;
 use entry::{arcseconds, entry_of, from_bytes, to_bytes};

@@ -1,4 +1,6 @@
 //! Outside vectors: the generator polynomials as the standard tables print them, and rows worked by hand.
+#![tactic(auto)]
+
 use bch::{data_cells, encode, generator_polynomial};
 use field::{ShiftField, TableField};
 
