@@ -1,5 +1,5 @@
 -- Bits, and how they lie in numbers and in buffers: bit j of a buffer of bytes is bit j mod 8, 0 the least, of byte j div 8.
-use Rattle.std.specs.Prelude.{◌≡◌, ℕ, ◌+◌, ◌*◌, ◌/◌, ◌%◌, ◌^◌, ◌<◌, ◌≤◌, Bool, true, false, cond, not, List, length, set, ◌==◌, bit_xor, slice_index, slice_set}
+use Rattle.std.specs.Prelude.{◌≡◌, ℕ, ◌+◌, ◌*◌, ◌/◌, ◌%◌, ◌^◌, ◌<◌, ◌≤◌, Bool, true, false, not, List, length, ◌==◌, bit_xor, slice_index, slice_set}
 
 -- the sum of two bits
 abbrev pub xor : Bool → Bool → Bool

@@ -38,5 +38,5 @@ returns-in-Sweep g c =
 pub returns-in-Read : goal.returns-in-Read
 returns-in-Read g c =
     let b = meaning g.C.Field g.C.Corrector g.M.Memory c.args.book.now in
-    let m : Made b b c.args.call c.read-out.result = subst (λ (q : Call). Made b b q c.read-out.result) (sym c.in-Read.is) (refl, c.read-out.ensures) in
-    record { kept = kept_self c.args.book.now; made = m; history = made_leads b b c.args.call c.read-out.result m }
+    let m : Made b b c.args.call c.read_out.result = subst (λ (q : Call). Made b b q c.read_out.result) (sym c.in-Read.is) (refl, c.read_out.ensures) in
+    record { kept = kept_self c.args.book.now; made = m; history = made_leads b b c.args.call c.read_out.result m }

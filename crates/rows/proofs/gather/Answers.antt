@@ -8,15 +8,15 @@ loop-j-init g c = filled_none (g.M.Memory.means c.args.memory.now).bit c.args.fi
 
 pub loop-j-preserved : goal.loop-j-preserved
 loop-j-preserved g c =
-    let fits = c.in-ok-check-run.ensures in
+    let fits = c.in_ok-check_run.ensures in
     let room : c.loop-j.j < 8 * length c.loop-j.row = omega (arith, fits.1) in
-    filled_more (g.M.Memory.means c.args.memory.now).bit c.args.first c.loop-j.j c.loop-j.row c.put-bit.new.buffer c.in-Ok.cell c.put-bit.result
-    room c.in-Ok.ensures.1 c.loop-j.invariant c.put-bit.ensures
+    filled_more (g.M.Memory.means c.args.memory.now).bit c.args.first c.loop-j.j c.loop-j.row c.put_bit.new.buffer c.in-Ok.cell c.put_bit.result
+    room c.in-Ok.ensures.1 c.loop-j.invariant c.put_bit.ensures
 
 pub returns : goal.returns
 returns g c =
     let m = g.M.Memory.means c.args.memory.now in
-    let fits = c.in-ok-check-run.ensures in
+    let fits = c.in_ok-check_run.ensures in
     let sized : Sized c.args.n c.loop-j.row = omega (arith, fits.1) in
     let e : c.loop-j.j ≡ c.args.n = omega arith in
     let all = filled_all m c.args.first c.args.n c.loop-j.row sized (rw e at c.loop-j.invariant) in

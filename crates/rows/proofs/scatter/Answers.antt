@@ -10,12 +10,12 @@ loop-j-init g c = laid_none c.args.first (bit_at 8 c.args.row.now) (g.M.Memory.m
 pub loop-j-preserved : goal.loop-j-preserved
 loop-j-preserved g c =
     let means = g.M.Memory.means in
-    let fits = c.in-ok-check-run.ensures in
+    let fits = c.in_ok-check_run.ensures in
     laid_more c.args.first c.loop-j.j (bit_at 8 c.args.row.now) (means c.args.memory.now) (means c.loop-j.memory) c.loop-j.invariant
     (means c.put.new.self) _ c.in-Ok.cell c.put.result refl (omega (arith, fits.0)) c.in-Ok.ensures.1 c.put.ensures
 
 pub returns : goal.returns
 returns g c =
-    let fits = c.in-ok-check-run.ensures in
+    let fits = c.in_ok-check_run.ensures in
     let e : c.loop-j.j ≡ c.args.n = omega arith in
     (fits.0, fits.1, rw e at c.loop-j.invariant)

@@ -17,7 +17,7 @@ pub returns-in-Read-clause-writes : goal.returns-in-Read-clause-writes
 returns-in-Read-clause-writes g c p o =
     let v = c.in-Read.byte in
     let f : v < 256 = omega arith in
-    let a = one_byte (v / 16) c.hex-digit-high.result (omega arith) c.hex-digit-high.ensures in
-    let b = one_byte (v % 16) c.hex-digit-low.result (omega arith) c.hex-digit-low.ensures in
+    let a = one_byte (v / 16) c.hex_digit-high.result (omega arith) c.hex_digit-high.ensures in
+    let b = one_byte (v % 16) c.hex_digit-low.result (omega arith) c.hex_digit-low.ensures in
     let e = (λ i. a i ++ (b i ++ (32 ∷ W.decimal c.in-Read.count))) ∙ ap text_of (sym c.in-Read.is) in
     subst (λ (x : List ℕ). W.HasWritten {W = g.row.W.Denot} g.W.Write.write_str_gives c.args.f.now x c.write-in-Read.new.self) e (c.write-in-Read.ensures.writes p o)

@@ -7,30 +7,30 @@ use Rattle.bch.proofs.encoder.extract.Goals as goal
 
 pub returns-then-data-n : goal.returns-then-data-n
 returns-then-data-n g c =
-    extract_unsized (g.F.Field.model c.args.f.now) (g.F.Field.lawful c.args.f.now) c.args.t c.in-ok-check-strength.ensures
-    c.row-cells-n.result c.check-cells-r.result c.row-cells-n.ensures c.check-cells-r.ensures
+    extract_unsized (g.F.Field.model c.args.f.now) (g.F.Field.lawful c.args.f.now) c.args.t c.in_ok-check_strength.ensures
+    c.row_cells-n.result c.check_cells-r.result c.row_cells-n.ensures c.check_cells-r.ensures
     c.args.row.now c.args.«data».now c.if-data-n.true
 
-pub returns-in-err-check-buffer : goal.returns-in-err-check-buffer
-returns-in-err-check-buffer g c =
-    let p = err_from_is_err_and c.from-residual-in-err-check-buffer.result c.from-residual-in-err-check-buffer.ensures.1 in
-    extract-refused (g.F.Field.model c.args.f.now) (g.F.Field.lawful c.args.f.now) c.args.t c.in-ok-check-strength.ensures
-    c.row-cells-n.result c.check-cells-r.result c.row-cells-n.ensures c.check-cells-r.ensures
-    c.args.row.now c.args.«data».now c.from-residual-in-err-check-buffer.result c.in-err-check-buffer.field-0.0 (p.1 ∙ ap Err p.2)
-    c.if-data-n.false c.in-err-check-buffer.ensures
+pub returns-in_err-check_buffer : goal.returns-in_err-check_buffer
+returns-in_err-check_buffer g c =
+    let p = err_from_is_err_and c.from-residual-in_err-check_buffer.result c.from-residual-in_err-check_buffer.ensures.1 in
+    extract-refused (g.F.Field.model c.args.f.now) (g.F.Field.lawful c.args.f.now) c.args.t c.in_ok-check_strength.ensures
+    c.row_cells-n.result c.check_cells-r.result c.row_cells-n.ensures c.check_cells-r.ensures
+    c.args.row.now c.args.«data».now c.from-residual-in_err-check_buffer.result c.in_err-check_buffer.field-0.0 (p.1 ∙ ap Err p.2)
+    c.if-data-n.false c.in_err-check_buffer.ensures
 
 pub loop-j-preserved : goal.loop-j-preserved
 loop-j-preserved g c = λ i.
     let l = c.loop-j in
-    c.in-ok-put-bit.ensures.1 i
-    ∙ ap₂ (cond (eqb i l.j)) c.in-ok-bit.ensures.1 (l.invariant i)
-    ∙ below_put (λ i. bit_at 8 c.args.row.now (c.check-cells-r.result + i)) l.j i
+    c.in_ok-put_bit.ensures.1 i
+    ∙ ap₂ (cond (eqb i l.j)) c.in_ok-bit.ensures.1 (l.invariant i)
+    ∙ below_put (λ i. bit_at 8 c.args.row.now (c.check_cells-r.result + i)) l.j i
 
 pub returns : goal.returns
 returns g c =
     let l = c.loop-j in
-    let e : l.j ≡ c.row-cells-n.result - c.check-cells-r.result = omega arith in
-    extract-done (g.F.Field.model c.args.f.now) (g.F.Field.lawful c.args.f.now) c.args.t c.in-ok-check-strength.ensures
-    c.row-cells-n.result c.check-cells-r.result c.row-cells-n.ensures c.check-cells-r.ensures
-    c.args.row.now c.args.«data».now l.«data» tt c.if-data-n.false (l.auto.«data» ∙ c.clear.auto.buffer) c.in-ok-check-buffer.ensures
-    (λ i. l.invariant i ∙ ap (λ j. cond (ltb i j) (bit_at 8 c.args.row.now (c.check-cells-r.result + i)) false) e)
+    let e : l.j ≡ c.row_cells-n.result - c.check_cells-r.result = omega arith in
+    extract-done (g.F.Field.model c.args.f.now) (g.F.Field.lawful c.args.f.now) c.args.t c.in_ok-check_strength.ensures
+    c.row_cells-n.result c.check_cells-r.result c.row_cells-n.ensures c.check_cells-r.ensures
+    c.args.row.now c.args.«data».now l.«data» tt c.if-data-n.false (l.auto.«data» ∙ c.clear.auto.buffer) c.in_ok-check_buffer.ensures
+    (λ i. l.invariant i ∙ ap (λ j. cond (ltb i j) (bit_at 8 c.args.row.now (c.check_cells-r.result + i)) false) e)

@@ -6,12 +6,12 @@ use Rattle.bch.proofs.encoder.lay.Goals as goal
 pub loop-j-preserved : goal.loop-j-preserved
 loop-j-preserved c = λ i.
     let l = c.loop-j in
-    c.in-ok-put-bit.ensures.1 i
+    c.in_ok-put_bit.ensures.1 i
     ∙ ap (cond (eqb i l.j) (bit_of c.args.check l.j)) (l.invariant i) ∙ below_put (bit_of c.args.check) l.j i
 
 pub loop-j-2-preserved : goal.loop-j-2-preserved
 loop-j-2-preserved c = λ i.
     let l = c.loop-j-2 in
-    c.in-ok-put-bit-2.ensures.1 i
-    ∙ ap₂ (cond (eqb i (c.args.r + l.j))) c.in-ok-bit.ensures.1 (l.invariant i)
+    c.in_ok-put_bit-2.ensures.1 i
+    ∙ ap₂ (cond (eqb i (c.args.r + l.j))) c.in_ok-bit.ensures.1 (l.invariant i)
     ∙ laid-put c.args.check c.args.r c.args.«data».now l.j i

@@ -15,8 +15,8 @@ loop-d-init g c =
     let one = power-once F laws c.alpha-lead.result c.alpha-lead.ensures in
     (refl, refl, one, one, no-factors F laws)
 
-pub times-factor-g-requires : goal.times-factor-g-requires
-times-factor-g-requires g c =
+pub times_factor-g-requires : goal.times_factor-g-requires
+times_factor-g-requires g c =
     let F = g.F.Field.model c.args.f.now in
     let laws = g.F.Field.lawful c.args.f.now in (
       λ i h. subst (λ z. z < size F) (sym (c.loop-d.invariant.4 i h)) (coefficient-lt F laws c.loop-d.-d i),
@@ -28,19 +28,19 @@ overflow-mul-here g c =
     let F = g.F.Field.model c.args.f.now in
     let laws = g.F.Field.lawful c.args.f.now in
     let l = c.loop-d in
-    let h = here_byte F laws c.args.t l.-d c.check-cells-d-end.result l.here c.requires c.check-cells-d-end.ensures c.loop-d-test.true l.invariant.1 in
+    let h = here_byte F laws c.args.t l.-d c.check_cells-d-end.result l.here c.requires c.check_cells-d-end.ensures c.loop-d-test.true l.invariant.1 in
     search rules
 
 pub nonzero-rem-here : goal.nonzero-rem-here
 nonzero-rem-here g c =
-    subst (λ z. 0 < z) (sym c.row-cells-n.ensures) (units-pos (g.F.Field.model c.args.f.now) (g.F.Field.lawful c.args.f.now))
+    subst (λ z. 0 < z) (sym c.row_cells-n.ensures) (units-pos (g.F.Field.model c.args.f.now) (g.F.Field.lawful c.args.f.now))
 
 pub overflow-add-first : goal.overflow-add-first
 overflow-add-first g c =
     let F = g.F.Field.model c.args.f.now in
     let laws = g.F.Field.lawful c.args.f.now in
     let l = c.loop-d in
-    let h = first-lt F laws c.args.t l.-d c.check-cells-d-end.result l.first c.requires c.check-cells-d-end.ensures c.loop-d-test.true l.invariant.0 in
+    let h = first-lt F laws c.args.t l.-d c.check_cells-d-end.result l.first c.requires c.check_cells-d-end.ensures c.loop-d-test.true l.invariant.0 in
     search rules
 
 pub loop-d-preserved : goal.loop-d-preserved
@@ -51,7 +51,7 @@ loop-d-preserved g c =
     let j = c.if-here-first in
     let n = units F in
     let i = l.invariant in
-    let twice : (2 * l.here) % c.row-cells-n.result ≡ (2 * (walk n l.-d).here) % n = ap₂ (λ h k. (2 * h) % k) i.1 c.row-cells-n.ensures in
+    let twice : (2 * l.here) % c.row_cells-n.result ≡ (2 * (walk n l.-d).here) % n = ap₂ (λ h k. (2 * h) % k) i.1 c.row_cells-n.ensures in
     let squared = c.mul-square.ensures ∙ ap₂ (product-of F) c.alpha.ensures c.alpha-2.ensures in
     let all : (j.first ≡ (walk n (l.-d + 1)).first) × (j.here ≡ (walk n (l.-d + 1)).here) × (j.lead ≡ power F j.first) × (j.root ≡ power F j.here) =
     elim c.if-here-first.branch [
@@ -65,7 +65,7 @@ loop-d-preserved g c =
           )
       | else-here-first w ↦
           let e = walk-goes n l.-d (λ q. w.if-here-first.false (twice ∙ q ∙ sym i.0)) in
-          let p = power-twice F laws l.here l.root c.mul-root.result c.row-cells-n.result c.row-cells-n.ensures i.3 c.mul-root.ensures in (
+          let p = power-twice F laws l.here l.root c.mul-root.result c.row_cells-n.result c.row_cells-n.ensures i.3 c.mul-root.ensures in (
             w.first-is ∙ i.0 ∙ e.0,
             w.here-is ∙ twice ∙ e.1,
             w.lead-is ∙ i.2 ∙ ap (power F) (sym w.first-is),
@@ -76,5 +76,5 @@ loop-d-preserved g c =
       all.1,
       all.2,
       all.3,
-      more-factors F laws l.-d l.root l.g c.times-factor-g.result (i.3 ∙ ap (power F) i.1) i.4 c.times-factor-g.ensures,
+      more-factors F laws l.-d l.root l.g c.times_factor-g.result (i.3 ∙ ap (power F) i.1) i.4 c.times_factor-g.ensures,
     )

@@ -6,7 +6,7 @@ pub packed-requires : goal.packed-requires
 packed-requires g c =
     let F = g.F.Field.model c.args.f.now in
     let laws = g.F.Field.lawful c.args.f.now in
-    let e = c.check-cells.ensures in
+    let e = c.check_cells.ensures in
     let h = (is_fine F laws c.args.t c.requires).few in
     (omega arith, λ i lt. subst (λ z. z < 2) (sym (c.coefficients.ensures i lt)) (coefficient-lt F laws c.args.t c.requires i))
 
@@ -14,7 +14,7 @@ pub returns : goal.returns
 returns g c =
     let F = g.F.Field.model c.args.f.now in
     let laws = g.F.Field.lawful c.args.f.now in
-    let e = c.check-cells.ensures in
+    let e = c.check_cells.ensures in
     let h = (is_fine F laws c.args.t c.requires).few in
     record {
       below = subst (λ k. c.packed.result < 2 ^ (k + 1)) e c.packed.ensures.below;

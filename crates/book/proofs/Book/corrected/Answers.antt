@@ -14,28 +14,28 @@ use Rattle.book.proofs.Book.corrected.Goals as goal
 pub unreachable-requires : goal.unreachable-requires
 unreachable-requires g c =
     let b = meaning g.C.Field g.C.Corrector g.M.Memory c.args.self.now in
-    let e = c.row-cells-n.ensures in
+    let e = c.row_cells-n.ensures in
     not_refused _ _ _ _ _ (rw e c.requires.sized) (rw e (row_room b c.args.row c.requires.row)) c.in-Err.ensures.0
 
 pub returns-then-count-reach : goal.returns-then-count-reach
 returns-then-count-reach g c =
     let b = meaning g.C.Field g.C.Corrector g.M.Memory c.args.self.now in
-    let row = gathered_row b c.args.row c.row-cells-n.result c.gather.new.row c.row-cells-n.ensures c.in-Ok.ensures.2 c.in-Ok.ensures.3 in
+    let row = gathered_row b c.args.row c.row_cells-n.result c.gather.new.row c.row_cells-n.ensures c.in-Ok.ensures.2 c.in-Ok.ensures.3 in
     past-reach b (g.C.Field.lawful c.args.self.now.corrector) c.args.row c.gather.new.row row.0 row.1
-    c.correct.new.row c.in-ok-count.count c.in-ok-count.ensures (rw c.reach.ensures at c.if-count-reach.true)
+    c.correct.new.row c.in_ok-count.count c.in_ok-count.ensures (rw c.reach.ensures at c.if-count-reach.true)
 
 pub returns : goal.returns
 returns g c =
     let b = meaning g.C.Field g.C.Corrector g.M.Memory c.args.self.now in
-    let row = gathered_row b c.args.row c.row-cells-n.result c.gather.new.row c.row-cells-n.ensures c.in-Ok.ensures.2 c.in-Ok.ensures.3 in
+    let row = gathered_row b c.args.row c.row_cells-n.result c.gather.new.row c.row_cells-n.ensures c.in-Ok.ensures.2 c.in-Ok.ensures.3 in
     in_reach b (g.C.Field.lawful c.args.self.now.corrector) c.args.row c.gather.new.row row.0 row.1
-    c.correct.new.row c.in-ok-count.count c.in-ok-count.ensures (rw c.reach.ensures at c.if-count-reach.false)
+    c.correct.new.row c.in_ok-count.count c.in_ok-count.ensures (rw c.reach.ensures at c.if-count-reach.false)
 
-pub returns-in-err-count : goal.returns-in-err-count
-returns-in-err-count g c =
+pub returns-in_err-count : goal.returns-in_err-count
+returns-in_err-count g c =
     let b = meaning g.C.Field g.C.Corrector g.M.Memory c.args.self.now in
-    let row = gathered_row b c.args.row c.row-cells-n.result c.gather.new.row c.row-cells-n.ensures c.in-Ok.ensures.2 c.in-Ok.ensures.3 in
+    let row = gathered_row b c.args.row c.row_cells-n.result c.gather.new.row c.row_cells-n.ensures c.in-Ok.ensures.2 c.in-Ok.ensures.3 in
     let p = err_from_is_err_and c.from-residual.result c.from-residual.ensures.1 in
     subst (λ (a : Result ℕ Refusal). Found b c.args.row c.correct.new.row a) (sym (p.1 ∙ ap Err p.2))
     (none_near b (g.C.Field.lawful c.args.self.now.corrector) c.args.row c.gather.new.row row.0 row.1
-    c.correct.new.row c.in-err-count.field-0.0 c.in-err-count.ensures)
+    c.correct.new.row c.in_err-count.field-0.0 c.in_err-count.ensures)

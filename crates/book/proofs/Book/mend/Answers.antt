@@ -21,8 +21,8 @@ returns-then-row-rows g c =
           (no_row_mend b c.args.row c.rows.result c.rows.ensures c.if-row-rows.true);
     }
 
-pub returns-in-err-turned : goal.returns-in-err-turned
-returns-in-err-turned g c =
+pub returns-in_err-turned : goal.returns-in_err-turned
+returns-in_err-turned g c =
     let b = meaning g.C.Field g.C.Corrector g.M.Memory c.args.self.now in
     let laws = g.C.Field.lawful c.args.self.now.corrector in
     let few = g.C.Corrector.few c.args.self.now.corrector in
@@ -31,8 +31,8 @@ returns-in-err-turned g c =
     record {
       kept = kept_self c.args.self.now;
       call = subst (λ (a : Result ℕ Refusal). MendCall b b c.args.row a) (sym (p.1 ∙ ap Err p.2))
-          (mend_call b b laws few (own_figures b) c.args.row (Err c.in-err-turned.field-0.0)
-          (not_mended b b c.args.row c.corrected.new.cells c.in-err-turned.field-0.0 l c.in-err-turned.ensures (as_was b.memory)));
+          (mend_call b b laws few (own_figures b) c.args.row (Err c.in_err-turned.field-0.0)
+          (not_mended b b c.args.row c.corrected.new.cells c.in_err-turned.field-0.0 l c.in_err-turned.ensures (as_was b.memory)));
     }
 
 pub returns : goal.returns
@@ -44,6 +44,6 @@ returns g c =
     let l : c.args.row < rows_of b = omega (arith, c.rows.ensures, c.if-row-rows.false) in
     record {
       kept = c.lay.ensures.kept;
-      call = mend_call b b' laws few (kept_figures g.C.Field g.C.Corrector g.M.Memory c.args.self.now c.lay.new.self c.lay.ensures.kept) c.args.row (Ok c.in-ok-turned.turned)
-          (mended b b' c.args.row c.corrected.new.cells c.in-ok-turned.turned l c.in-ok-turned.ensures c.lay.ensures.laid);
+      call = mend_call b b' laws few (kept_figures g.C.Field g.C.Corrector g.M.Memory c.args.self.now c.lay.new.self c.lay.ensures.kept) c.args.row (Ok c.in_ok-turned.turned)
+          (mended b b' c.args.row c.corrected.new.cells c.in_ok-turned.turned l c.in_ok-turned.ensures c.lay.ensures.laid);
     }

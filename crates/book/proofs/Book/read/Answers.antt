@@ -18,36 +18,36 @@ returns-then-row-rows g c =
     read_call b laws few c.args.row c.args.bytes.now c.args.bytes.now (Err Row)
     (no_row_read b c.args.row c.rows.result c.rows.ensures c.if-row-rows.true c.args.bytes.now)
 
-pub returns-then-bytes-data-cells : goal.returns-then-bytes-data-cells
-returns-then-bytes-data-cells g c =
+pub returns-then-bytes-data_cells : goal.returns-then-bytes-data_cells
+returns-then-bytes-data_cells g c =
     let b = meaning g.C.Field g.C.Corrector g.M.Memory c.args.self.now in
     let laws = g.C.Field.lawful c.args.self.now.corrector in
     let few = g.C.Corrector.few c.args.self.now.corrector in
     let l : c.args.row < rows_of b = omega (arith, c.rows.ensures, c.if-row-rows.false) in
     read_call b laws few c.args.row c.args.bytes.now c.args.bytes.now (Err Length)
-    (unsized b c.args.row c.args.bytes.now l c.data-cells.result c.data-cells.ensures c.if-bytes-data-cells.true)
+    (unsized b c.args.row c.args.bytes.now l c.data_cells.result c.data_cells.ensures c.if-bytes-data_cells.true)
 
-pub returns-in-err-differing : goal.returns-in-err-differing
-returns-in-err-differing g c =
+pub returns-in_err-differing : goal.returns-in_err-differing
+returns-in_err-differing g c =
     let b = meaning g.C.Field g.C.Corrector g.M.Memory c.args.self.now in
     let laws = g.C.Field.lawful c.args.self.now.corrector in
     let few = g.C.Corrector.few c.args.self.now.corrector in
     let l : c.args.row < rows_of b = omega (arith, c.rows.ensures, c.if-row-rows.false) in
     let p = err_from_is_err_and c.from-residual.result c.from-residual.ensures.1 in
     subst (λ (a : Result ℕ Refusal). ReadCall b c.args.row c.args.bytes.now c.args.bytes.now a) (sym (p.1 ∙ ap Err p.2))
-    (read_call b laws few c.args.row c.args.bytes.now c.args.bytes.now (Err c.in-err-differing.field-0.0)
-    (not_found b c.args.row c.args.bytes.now l c.data-cells.result c.data-cells.ensures c.if-bytes-data-cells.false
-    c.corrected.new.cells c.in-err-differing.field-0.0 c.in-err-differing.ensures))
+    (read_call b laws few c.args.row c.args.bytes.now c.args.bytes.now (Err c.in_err-differing.field-0.0)
+    (not_found b c.args.row c.args.bytes.now l c.data_cells.result c.data_cells.ensures c.if-bytes-data_cells.false
+    c.corrected.new.cells c.in_err-differing.field-0.0 c.in_err-differing.ensures))
 
-pub returns-in-err-extract : goal.returns-in-err-extract
-returns-in-err-extract g c =
+pub returns-in_err-extract : goal.returns-in_err-extract
+returns-in_err-extract g c =
     let b = meaning g.C.Field g.C.Corrector g.M.Memory c.args.self.now in
     let laws = g.C.Field.lawful c.args.self.now.corrector in
     let few = g.C.Corrector.few c.args.self.now.corrector in
     let l : c.args.row < rows_of b = omega (arith, c.rows.ensures, c.if-row-rows.false) in
-    absurd (always-extracted b c.args.row c.args.bytes.now l c.data-cells.result c.data-cells.ensures c.if-bytes-data-cells.false
-    (Unit {0}) c.corrects.result c.corrected.new.cells c.extract.new.«data» c.in-ok-differing.differing c.in-err-extract.field-0.0
-    c.corrects.ensures few c.in-ok-differing.ensures c.in-err-extract.ensures)
+    absurd (always-extracted b c.args.row c.args.bytes.now l c.data_cells.result c.data_cells.ensures c.if-bytes-data_cells.false
+    (Unit {0}) c.corrects.result c.corrected.new.cells c.extract.new.«data» c.in_ok-differing.differing c.in_err-extract.field-0.0
+    c.corrects.ensures few c.in_ok-differing.ensures c.in_err-extract.ensures)
 
 pub returns : goal.returns
 returns g c =
@@ -55,7 +55,7 @@ returns g c =
     let laws = g.C.Field.lawful c.args.self.now.corrector in
     let few = g.C.Corrector.few c.args.self.now.corrector in
     let l : c.args.row < rows_of b = omega (arith, c.rows.ensures, c.if-row-rows.false) in
-    read_call b laws few c.args.row c.args.bytes.now c.extract.new.«data» (Ok c.in-ok-differing.differing)
-    (looked b c.args.row c.args.bytes.now l c.data-cells.result c.data-cells.ensures c.if-bytes-data-cells.false
-    (Unit {0}) c.corrects.result c.corrected.new.cells c.extract.new.«data» c.in-ok-differing.differing _ c.corrects.ensures
-    c.in-ok-differing.ensures c.in-ok-extract.ensures)
+    read_call b laws few c.args.row c.args.bytes.now c.extract.new.«data» (Ok c.in_ok-differing.differing)
+    (looked b c.args.row c.args.bytes.now l c.data_cells.result c.data_cells.ensures c.if-bytes-data_cells.false
+    (Unit {0}) c.corrects.result c.corrected.new.cells c.extract.new.«data» c.in_ok-differing.differing _ c.corrects.ensures
+    c.in_ok-differing.ensures c.in_ok-extract.ensures)

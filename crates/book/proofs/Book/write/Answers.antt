@@ -21,8 +21,8 @@ returns-then-row-rows g c =
           (no_row_write b c.args.row c.rows.result c.rows.ensures c.if-row-rows.true (Unit {0}) c.args.bytes.now);
     }
 
-pub returns-in-err-encode : goal.returns-in-err-encode
-returns-in-err-encode g c =
+pub returns-in_err-encode : goal.returns-in_err-encode
+returns-in_err-encode g c =
     let b = meaning g.C.Field g.C.Corrector g.M.Memory c.args.self.now in
     let laws = g.C.Field.lawful c.args.self.now.corrector in
     let few = g.C.Corrector.few c.args.self.now.corrector in
@@ -31,9 +31,9 @@ returns-in-err-encode g c =
     record {
       kept = kept_self c.args.self.now;
       call = subst (λ (a : Result (Unit {0}) Refusal). WriteCall b b c.args.row c.args.bytes.now a) (sym (p.1 ∙ ap Err p.2))
-          (write_call (Unit {0}) b b laws few (own_figures b) c.args.row c.args.bytes.now (Err c.in-err-encode.field-0.0)
-          (not_encoded (Unit {0}) b b c.args.row c.corrects.result c.args.bytes.now _ c.encode.new.row c.in-err-encode.field-0.0
-          c.corrects.ensures few l (search rules) c.in-err-encode.ensures (as_was b.memory)));
+          (write_call (Unit {0}) b b laws few (own_figures b) c.args.row c.args.bytes.now (Err c.in_err-encode.field-0.0)
+          (not_encoded (Unit {0}) b b c.args.row c.corrects.result c.args.bytes.now _ c.encode.new.row c.in_err-encode.field-0.0
+          c.corrects.ensures few l (search rules) c.in_err-encode.ensures (as_was b.memory)));
     }
 
 pub returns : goal.returns
@@ -47,5 +47,5 @@ returns g c =
       kept = c.lay.ensures.kept;
       call = write_call (Unit {0}) b b' laws few (kept_figures g.C.Field g.C.Corrector g.M.Memory c.args.self.now c.lay.new.self c.lay.ensures.kept) c.args.row c.args.bytes.now (Ok _)
           (wrote (Unit {0}) b b' c.args.row c.corrects.result c.args.bytes.now _ c.encode.new.row _ c.corrects.ensures l
-          c.in-ok-encode.ensures c.lay.ensures.laid);
+          c.in_ok-encode.ensures c.lay.ensures.laid);
     }

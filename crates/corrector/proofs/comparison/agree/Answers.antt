@@ -4,7 +4,7 @@ use Rattle.std.proofs.lemmas.Bool.{false≢true}
 use Rattle.refusal.specs.declared.Refusal.TheVariants.{Length}
 use Rattle.corrector.proofs.Unique.{too_long, unlike, meet}
 use Rattle.corrector.proofs.comparison.agree.Goals as goal
-use Rattle.corrector.proofs.comparison.agree.Goals.{else-same-answer-via-then-same-answer+else-same-bytes, else-same-answer-via-else-same-answer}
+use Rattle.corrector.proofs.comparison.agree.Goals.{else-same_answer-via-then-same_answer+else-same_bytes, else-same_answer-via-else-same_answer}
 
 pub returns-then-row-gt32 : goal.returns-then-row-gt32
 returns-then-row-gt32 g c = record {
@@ -17,23 +17,23 @@ returns-then-row-gt32 g c = record {
   alike = λ _ _. refl;
 }
 
-pub returns-else-same-answer : goal.returns-else-same-answer
-returns-else-same-answer g c =
+pub returns-else-same_answer : goal.returns-else-same_answer
+returns-else-same_answer g c =
     let both = meet (g.C.Field.model c.args.c.now) (g.D.Field.model c.args.d.now) (g.C.Field.lawful c.args.c.now)
-    (g.C.Corrector.strength c.args.c.now) (g.D.Corrector.strength c.args.d.now) c.args.row.now c.copy-from-slice.new.self
-    c.copy-from-slice-2.new.self c.correct-one.new.row c.correct-two.new.row c.correct-one.result c.correct-two.result
-    c.copy-from-slice.ensures.after c.copy-from-slice-2.ensures.after c.correct-one.ensures c.correct-two.ensures in
+    (g.C.Corrector.strength c.args.c.now) (g.D.Corrector.strength c.args.d.now) c.args.row.now c.copy_from_slice.new.self
+    c.copy_from_slice-2.new.self c.correct-one.new.row c.correct-two.new.row c.correct-one.result c.correct-two.result
+    c.copy_from_slice.ensures.after c.copy_from_slice-2.ensures.after c.correct-one.ensures c.correct-two.ensures in
     let told = unlike (g.C.Field.model c.args.c.now) (g.D.Field.model c.args.d.now) (g.C.Field.lawful c.args.c.now)
-    (g.C.Corrector.strength c.args.c.now) (g.D.Corrector.strength c.args.d.now) c.args.row.now c.copy-from-slice.new.self
-    c.copy-from-slice-2.new.self c.correct-one.new.row c.correct-two.new.row c.correct-one.result c.correct-two.result
-    c.copy-from-slice.ensures.after c.copy-from-slice-2.ensures.after c.correct-one.ensures c.correct-two.ensures in
-    elim c.else-same-answer.branch [
-      | else-same-answer-via-then-same-answer+else-same-bytes w ↦ record {
-        compared = told (λ _ e. false≢true (w.if-same-bytes.ensures.told (ap length e) (λ j. ap (λ a. bit_at 8 a j) e)));
-        alike = λ eF et. let z = both eF et in absurd (false≢true (w.if-same-bytes.ensures.told z.2 z.1));
+    (g.C.Corrector.strength c.args.c.now) (g.D.Corrector.strength c.args.d.now) c.args.row.now c.copy_from_slice.new.self
+    c.copy_from_slice-2.new.self c.correct-one.new.row c.correct-two.new.row c.correct-one.result c.correct-two.result
+    c.copy_from_slice.ensures.after c.copy_from_slice-2.ensures.after c.correct-one.ensures c.correct-two.ensures in
+    elim c.else-same_answer.branch [
+      | else-same_answer-via-then-same_answer+else-same_bytes w ↦ record {
+        compared = told (λ _ e. false≢true (w.if-same_bytes.ensures.told (ap length e) (λ j. ap (λ a. bit_at 8 a j) e)));
+        alike = λ eF et. let z = both eF et in absurd (false≢true (w.if-same_bytes.ensures.told z.2 z.1));
       }
-      | else-same-answer-via-else-same-answer w ↦ record {
-        compared = told (λ e _. false≢true (w.if-same-answer.ensures.told e));
-        alike = λ eF et. absurd (false≢true (w.if-same-answer.ensures.told (both eF et).0));
+      | else-same_answer-via-else-same_answer w ↦ record {
+        compared = told (λ e _. false≢true (w.if-same_answer.ensures.told e));
+        alike = λ eF et. absurd (false≢true (w.if-same_answer.ensures.told (both eF et).0));
       }
     ]

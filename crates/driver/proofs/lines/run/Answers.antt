@@ -11,33 +11,33 @@ pub loop-line-preserved : goal.loop-line-preserved
 loop-line-preserved g c =
     let b = meaning g.C.Field g.C.Corrector g.M.Memory c.args.book.now in
     let m = meaning g.C.Field g.C.Corrector g.M.Memory c.loop-line.book in
-    let m' = meaning g.C.Field g.C.Corrector g.M.Memory c.run-line-answer.new.book in
+    let m' = meaning g.C.Field g.C.Corrector g.M.Memory c.run_line-answer.new.book in
     let all = lines_of c.args.input.now in
     let left' = lines_of (remaining c.next.new.self) in
-    let k = c.run-line-answer.ensures.kept in (
-      kept_on c.args.book.now c.loop-line.book c.run-line-answer.new.book c.loop-line.invariant.0 k,
+    let k = c.run_line-answer.ensures.kept in (
+      kept_on c.args.book.now c.loop-line.book c.run_line-answer.new.book c.loop-line.invariant.0 k,
       goes_on b all m m' (lines_of (remaining c.loop-line.line-iterator)) left' c.in-Some.line.now (vec_items c.loop-line.answers)
-          (vec_items c.push.new.self) c.run-line-answer.result c.loop-line.invariant.1 c.in-Some.ensures.steps
-          (same_figures g.C.Field g.C.Corrector g.M.Memory c.loop-line.book c.run-line-answer.new.book k)
-          c.run-line-answer.ensures.call c.in-ok-push.ensures.items,
+          (vec_items c.push.new.self) c.run_line-answer.result c.loop-line.invariant.1 c.in-Some.ensures.steps
+          (same_figures g.C.Field g.C.Corrector g.M.Memory c.loop-line.book c.run_line-answer.new.book k)
+          c.run_line-answer.ensures.call c.in_ok-push.ensures.items,
     )
 
-pub returns-in-err-push : goal.returns-in-err-push
-returns-in-err-push g c =
+pub returns-in_err-push : goal.returns-in_err-push
+returns-in_err-push g c =
     let b = meaning g.C.Field g.C.Corrector g.M.Memory c.args.book.now in
     let m = meaning g.C.Field g.C.Corrector g.M.Memory c.loop-line.book in
-    let m' = meaning g.C.Field g.C.Corrector g.M.Memory c.run-line-answer.new.book in
+    let m' = meaning g.C.Field g.C.Corrector g.M.Memory c.run_line-answer.new.book in
     let all = lines_of c.args.input.now in
     let left' = lines_of (remaining c.next.new.self) in
     let told = vec_items c.loop-line.answers in
-    let k = c.run-line-answer.ensures.kept in
-    let way = goes_on b all m m' (lines_of (remaining c.loop-line.line-iterator)) left' c.in-Some.line.now told (told ++ (c.run-line-answer.result ∷ []))
-    c.run-line-answer.result c.loop-line.invariant.1 c.in-Some.ensures.steps
-    (same_figures g.C.Field g.C.Corrector g.M.Memory c.loop-line.book c.run-line-answer.new.book k) c.run-line-answer.ensures.call refl in
+    let k = c.run_line-answer.ensures.kept in
+    let way = goes_on b all m m' (lines_of (remaining c.loop-line.line-iterator)) left' c.in-Some.line.now told (told ++ (c.run_line-answer.result ∷ []))
+    c.run_line-answer.result c.loop-line.invariant.1 c.in-Some.ensures.steps
+    (same_figures g.C.Field g.C.Corrector g.M.Memory c.loop-line.book c.run_line-answer.new.book k) c.run_line-answer.ensures.call refl in
     let p = err_from_is_err_and c.from-residual.result c.from-residual.ensures.1 in
     record {
-      kept = kept_on c.args.book.now c.loop-line.book c.run-line-answer.new.book c.loop-line.invariant.0 k;
-      answers = rw p.1 (stops b all m' left' (told ++ (c.run-line-answer.result ∷ [])) way);
+      kept = kept_on c.args.book.now c.loop-line.book c.run_line-answer.new.book c.loop-line.invariant.0 k;
+      answers = rw p.1 (stops b all m' left' (told ++ (c.run_line-answer.result ∷ [])) way);
     }
 
 pub returns : goal.returns

@@ -9,10 +9,10 @@ use Rattle.driver.proofs.lines.run_line.Goals as goal
 pub returns-in-Ok : goal.returns-in-Ok
 returns-in-Ok g c =
     let b = meaning g.C.Field g.C.Corrector g.M.Memory c.args.book.now in
-    let b' = meaning g.C.Field g.C.Corrector g.M.Memory c.run-command.new.book in
+    let b' = meaning g.C.Field g.C.Corrector g.M.Memory c.run_command.new.book in
     let s = c.args.line.now in
-    let d : Driven b b' s c.run-command.result = inl (c.in-Ok.command, c.in-Ok.ensures.answer, c.run-command.ensures.call) in
-    record { kept = c.run-command.ensures.kept; call = d; history = one_leads b b' s c.run-command.result d }
+    let d : Driven b b' s c.run_command.result = inl (c.in-Ok.command, c.in-Ok.ensures.answer, c.run_command.ensures.call) in
+    record { kept = c.run_command.ensures.kept; call = d; history = one_leads b b' s c.run_command.result d }
 
 pub returns-in-Err : goal.returns-in-Err
 returns-in-Err g c =

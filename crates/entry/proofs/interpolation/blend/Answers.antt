@@ -7,7 +7,7 @@ use Rattle.entry.proofs.Law.{rounds}
 use Rattle.entry.proofs.Sums.{nearest-between, nearest-fits}
 use Rattle.entry.proofs.interpolation.blend.Goals as goal
 
-module _ (c : goal.After-nearest-quotient) where
+module _ (c : goal.After-nearest_quotient) where
   abbrev answer : ℤ
   answer = nearest (blended c.args.entry c.args.next c.args.fraction) 65536
 
@@ -17,13 +17,13 @@ module _ (c : goal.After-nearest-quotient) where
   fits : SFits w16 answer
   fits = nearest-fits c.args.entry c.args.next c.args.fraction below c.ranges.entry c.ranges.next
 
-  result_is : to_z w64 (of_z w64 c.nearest-quotient.result) ≡ answer
+  result_is : to_z w64 (of_z w64 c.nearest_quotient.result) ≡ answer
   result_is =
       let x = to_z-of_z w16 c.args.entry c.ranges.entry in
       let y = to_z-of_z w16 c.args.next c.ranges.next in
-      let s : to_z w64 (of_z w64 c.exact-sum.result) ≡ c.exact-sum.result = omega (arith, ints) in
-      let r : to_z w64 (of_z w64 c.nearest-quotient.result) ≡ c.nearest-quotient.result = omega (arith, ints) in
-      r ∙ c.nearest-quotient.ensures ∙ (λ i. nearest (s i) 65536) ∙ (λ i. nearest (c.exact-sum.ensures i) 65536) ∙ (λ i. nearest (blended (x i) (y i) c.args.fraction) 65536)
+      let s : to_z w64 (of_z w64 c.exact_sum.result) ≡ c.exact_sum.result = omega (arith, ints) in
+      let r : to_z w64 (of_z w64 c.nearest_quotient.result) ≡ c.nearest_quotient.result = omega (arith, ints) in
+      r ∙ c.nearest_quotient.ensures ∙ (λ i. nearest (s i) 65536) ∙ (λ i. nearest (c.exact_sum.ensures i) 65536) ∙ (λ i. nearest (blended (x i) (y i) c.args.fraction) 65536)
 
 pub overflow-cast-result : goal.overflow-cast-result
 overflow-cast-result c = subst (SFits w16) (sym (result_is c)) (fits c)

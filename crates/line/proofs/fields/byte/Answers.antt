@@ -5,4 +5,4 @@ use Rattle.line.proofs.fields.byte.Goals as goal
 pub returns : goal.returns
 returns c =
     let n : length c.args.field.now ≡ 2 = search rules in
-    two_digits c.args.field.now _ _ n c.in-ok-high.ensures c.in-ok-low.ensures
+    two_digits c.args.field.now _ _ n c.in_ok-high.ensures c.in_ok-low.ensures

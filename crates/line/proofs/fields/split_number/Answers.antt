@@ -22,14 +22,14 @@ returns-then-space-fields c = (
       inside 32 c.args.fields.now c.position-space.result c.position-space.ensures t u e (omega arith),
 )
 
-pub returns-in-err-number : goal.returns-in-err-number
-returns-in-err-number c =
+pub returns-in_err-number : goal.returns-in_err-number
+returns-in_err-number c =
     let p = err_from_is_err_and c.from-residual.result c.from-residual.ensures.1 in
     let s = c.args.fields.now in
     let k = c.position-space.result in
     let z : k ≡ k - 0 = omega arith in
     let l : k < length s = omega arith in
-    let r = c.in-err-number.ensures in
+    let r = c.in_err-number.ensures in
     rw (p.1, p.2) (r.0, λ t u n h e. r.1 n (subst (λ (j : ℕ). Numeral (take j s) n) z (first_field s k c.position-space.ensures l t u n h e)))
 
 pub returns : goal.returns
@@ -38,4 +38,4 @@ returns c =
     let k = c.position-space.result in
     let z : k - 0 ≡ k = omega arith in
     let l : k < length s = omega arith in
-    (take k s, subst (λ (j : ℕ). Numeral (take j s) c.in-ok-number.number) z c.in-ok-number.ensures, cut 32 s k c.position-space.ensures l ∙ ap (λ (x : List ℕ). take k s ++ (32 ∷ x)) (sym (take_rest s (k + 1))))
+    (take k s, subst (λ (j : ℕ). Numeral (take j s) c.in_ok-number.number) z c.in_ok-number.ensures, cut 32 s k c.position-space.ensures l ∙ ap (λ (x : List ℕ). take k s ++ (32 ∷ x)) (sym (take_rest s (k + 1))))

@@ -7,7 +7,7 @@ loop-k-init c = run_none 8 c.args.bytes.now c.args.from
 
 pub loop-k-preserved : goal.loop-k-preserved
 loop-k-preserved c =
-    rw c.turn-byte-cell.ensures (run_more 8 _ c.loop-k.bytes c.args.from c.loop-k.k (omega arith) (omega arith) (omega arith) c.loop-k.invariant)
+    rw c.turn_byte_cell.ensures (run_more 8 _ c.loop-k.bytes c.args.from c.loop-k.k (omega arith) (omega arith) (omega arith) c.loop-k.invariant)
 
 pub returns : goal.returns
 returns c =

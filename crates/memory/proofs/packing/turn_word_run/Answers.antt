@@ -7,7 +7,7 @@ loop-k-init c = run_none 32 c.args.words.now c.args.from
 
 pub loop-k-preserved : goal.loop-k-preserved
 loop-k-preserved c =
-    rw c.turn-word-cell.ensures (run_more 32 _ c.loop-k.words c.args.from c.loop-k.k (omega arith) (omega arith) (omega arith) c.loop-k.invariant)
+    rw c.turn_word_cell.ensures (run_more 32 _ c.loop-k.words c.args.from c.loop-k.k (omega arith) (omega arith) (omega arith) c.loop-k.invariant)
 
 pub returns : goal.returns
 returns c =

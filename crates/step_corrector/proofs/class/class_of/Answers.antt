@@ -10,8 +10,8 @@ returns g c =
     let F = g.F.Field.model c.args.f.now in
     let laws = g.F.Field.lawful c.args.f.now in
     let s = c.args.sums in
-    let told : Elements F s → c.class-by.result ≡ class_for F c.args.t s = λ h.
-    listed-is F c.args.t s c.class-by.result c.is-clean.result c.add-d2.result c.add-d3.result c.is-clean.ensures c.class-by.ensures
+    let told : Elements F s → c.class_by.result ≡ class_for F c.args.t s = λ h.
+    listed-is F c.args.t s c.class_by.result c.is_clean.result c.add-d2.result c.add-d3.result c.is_clean.ensures c.class_by.ensures
     (second_is F laws s.s1 s.s3 c.mul.result c.mul-cube.result c.add-d2.result h.0 h.1 c.mul.ensures c.mul-cube.ensures
     c.add-d2.ensures)
     (third-is F laws s.s1 s.s3 c.mul.result c.mul-cube.result c.add-d2.result h.0 h.1 c.mul.ensures c.mul-cube.ensures

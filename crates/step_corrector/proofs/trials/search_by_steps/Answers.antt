@@ -5,7 +5,7 @@ use Rattle.galois.proofs.Powers.{next_power}
 use Rattle.field.specs.Syndromes.{syndromes_of}
 use Rattle.step_corrector.proofs.Stepping.{Known, known_start, known_turn, known_leave, known_found, known_none, known_beyond}
 use Rattle.step_corrector.proofs.trials.search_by_steps.Goals as goal
-use Rattle.step_corrector.proofs.trials.search_by_steps.Goals.{in-Some, in-default-try-position}
+use Rattle.step_corrector.proofs.trials.search_by_steps.Goals.{in-Some, in-default-try_position}
 
 pub loop-p-init : goal.loop-p-init
 unfolding power
@@ -13,7 +13,7 @@ loop-p-init g c = (
   refl,
   omega arith,
   known_start (g.F.Field.model c.args.f.now) (g.F.Field.lawful c.args.f.now) c.args.t c.requires.few c.args.row.now c.args.sums
-      c.class-of.result c.class-of.ensures.counted,
+      c.class_of.result c.class_of.ensures.counted,
 )
 
 pub loop-p-preserved : goal.loop-p-preserved
@@ -24,22 +24,22 @@ loop-p-preserved g c =
     let lt : c.loop-p.p < units F = let z = c.requires.all in omega arith in
     let room : c.loop-p.p < 8 * length c.loop-p.row = let z = c.requires.long in omega arith in
     let few-turns = c.loop-p.invariant.1 in
-    elim c.match-try-position.branch [
+    elim c.match-try_position.branch [
       | in-Some w ↦ (
         x,
         omega (arith, w.count-is),
         λ es.
-            known_turn F laws c.args.t c.requires.few c.args.row.now c.loop-p.row c.try-position.new.row c.loop-p.p c.loop-p.x
-            c.loop-p.count c.loop-p.stands (c.loop-p.invariant.2 es) lt room c.loop-p.invariant.0 w.in-Some.kept c.match-try-position.stands
-            c.match-try-position.count w.count-is w.stands-is w.in-Some.ensures,
+            known_turn F laws c.args.t c.requires.few c.args.row.now c.loop-p.row c.try_position.new.row c.loop-p.p c.loop-p.x
+            c.loop-p.count c.loop-p.stands (c.loop-p.invariant.2 es) lt room c.loop-p.invariant.0 w.in-Some.kept c.match-try_position.stands
+            c.match-try_position.count w.count-is w.stands-is w.in-Some.ensures,
       )
-      | in-default-try-position w ↦ (
+      | in-default-try_position w ↦ (
         x,
         omega (arith, w.count-is),
         λ es.
-            known_leave F laws c.args.t c.requires.few c.args.row.now c.loop-p.row c.try-position.new.row c.loop-p.p c.loop-p.x
-            c.loop-p.count c.loop-p.stands (c.loop-p.invariant.2 es) lt room c.loop-p.invariant.0 c.match-try-position.stands
-            c.match-try-position.count w.count-is w.stands-is w.in-default-try-position.ensures,
+            known_leave F laws c.args.t c.requires.few c.args.row.now c.loop-p.row c.try_position.new.row c.loop-p.p c.loop-p.x
+            c.loop-p.count c.loop-p.stands (c.loop-p.invariant.2 es) lt room c.loop-p.invariant.0 c.match-try_position.stands
+            c.match-try_position.count w.count-is w.stands-is w.in-default-try_position.ensures,
       )
     ]
 

@@ -11,5 +11,5 @@ returns g c =
       comes_back c.args.row.now c.new-trial.result.row.now _ c.args.position c.new-trial.result.position c.requires
           c.new-trial.ensures.turned.0 c.new-trial.ensures.turned.1 (search rules),
       subst (λ (s : Syndromes). Elements F s → falls c.args.before.class (class_for F c.args.t s) ≡ false) c.turned-sums.ensures
-          (λ h. sym (c.if-falls-to.ensures h)),
+          (λ h. sym (c.if-falls_to.ensures h)),
     )

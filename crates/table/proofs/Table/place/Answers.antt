@@ -9,4 +9,4 @@ returns g c =
     let self = c.args.self.now in
     let b = meaning g.C.Field g.C.Corrector g.M.Memory self.book in
     let l : c.args.i < entries_of b self.entries = omega (arith, c.entries.ensures.0, c.if-i-entries.false) in
-    (l, stands b self.entries c.args.i l c.per-row-e.result c.per-row-e.ensures.0)
+    (l, stands b self.entries c.args.i l c.per_row-e.result c.per_row-e.ensures.0)

@@ -10,32 +10,32 @@ use Rattle.table.specs.Model.{changed}
 use Rattle.table.proofs.Putting.{put-no_value, put-no_row, put-done}
 use Rattle.table.proofs.Table.put.Goals as goal
 
-pub returns-in-err-entry : goal.returns-in-err-entry
-returns-in-err-entry g c =
+pub returns-in_err-entry : goal.returns-in_err-entry
+returns-in_err-entry g c =
     let self = c.args.self.now in
     let b = meaning g.C.Field g.C.Corrector g.M.Memory self.book in
-    let at = c.in-ok-row.ensures in
-    let p = err_from_is_err_and c.from-residual-in-err-entry.result c.from-residual-in-err-entry.ensures.1 in
+    let at = c.in_ok-row.ensures in
+    let p = err_from_is_err_and c.from-residual-in_err-entry.result c.from-residual-in_err-entry.ensures.1 in
     record {
       kept = (kept_self self.book, refl);
       history = λ h led. led;
       call = subst (λ (a : Result (Unit {0}) Refusal). Put b b self.entries c.args.i c.args.value a) (sym (p.1 ∙ ap Err p.2))
-          (put-no_value b self.entries c.args.i c.in-ok-row.row c.in-ok-row.index at.0 at.1 c.args.value (Unit {0})
-          c.in-err-entry.field-0.0 c.in-err-entry.ensures.law);
+          (put-no_value b self.entries c.args.i c.in_ok-row.row c.in_ok-row.index at.0 at.1 c.args.value (Unit {0})
+          c.in_err-entry.field-0.0 c.in_err-entry.ensures.law);
     }
 
-pub returns-in-err-read : goal.returns-in-err-read
-returns-in-err-read g c =
+pub returns-in_err-read : goal.returns-in_err-read
+returns-in_err-read g c =
     let self = c.args.self.now in
     let b = meaning g.C.Field g.C.Corrector g.M.Memory self.book in
-    let at = c.in-ok-row.ensures in
-    let p = err_from_is_err_and c.from-residual-in-err-read.result c.from-residual-in-err-read.ensures.1 in
+    let at = c.in_ok-row.ensures in
+    let p = err_from_is_err_and c.from-residual-in_err-read.result c.from-residual-in_err-read.ensures.1 in
     record {
       kept = (kept_self self.book, refl);
       history = λ h led. led;
       call = subst (λ (a : Result (Unit {0}) Refusal). Put b b self.entries c.args.i c.args.value a) (sym (p.1 ∙ ap Err p.2))
-          (put-no_row b self.entries c.args.i c.in-ok-row.row c.in-ok-row.index at.0 at.1 c.args.value (Unit {0}) _ c.read.new.bytes (search rules)
-          c.in-err-read.field-0.0 c.in-ok-entry.entry c.in-ok-entry.ensures.law c.in-err-read.ensures);
+          (put-no_row b self.entries c.args.i c.in_ok-row.row c.in_ok-row.index at.0 at.1 c.args.value (Unit {0}) _ c.read.new.bytes (search rules)
+          c.in_err-read.field-0.0 c.in_ok-entry.entry c.in_ok-entry.ensures.law c.in_err-read.ensures);
     }
 
 pub returns : goal.returns
@@ -43,15 +43,15 @@ returns g c =
     let self = c.args.self.now in
     let b = meaning g.C.Field g.C.Corrector g.M.Memory self.book in
     let b' = meaning g.C.Field g.C.Corrector g.M.Memory c.write.new.self in
-    let at = c.in-ok-row.ensures in
-    let call = c.in-ok-read.ensures in
-    let z = c.in-ok-entry.entry in
+    let at = c.in_ok-row.ensures in
+    let call = c.in_ok-read.ensures in
+    let z = c.in_ok-entry.entry in
     let f : SFits w16 z = search rules in
     let e = to_z-of_z w16 z f in
     record {
       kept = (c.write.ensures.kept, refl);
       history = λ h led. led;
-      call = put-done b self.entries c.args.i c.in-ok-row.row c.in-ok-row.index at.0 at.1 c.args.value _ c.read.new.bytes call.done.1
-          c.in-ok-read.field-0 z (sym c.in-ok-entry.ensures.answer) (subst (λ (q : ℤ). number_of (bytes_of q) ≡ q) e c.set-entry-at.ensures.back) call b' c.write.result c.set-entry-at.new.bytes
-          (c.set-entry-at.ensures.value ∙ ap (changed c.read.new.bytes c.in-ok-row.index) e) c.write.ensures.call;
+      call = put-done b self.entries c.args.i c.in_ok-row.row c.in_ok-row.index at.0 at.1 c.args.value _ c.read.new.bytes call.done.1
+          c.in_ok-read.field-0 z (sym c.in_ok-entry.ensures.answer) (subst (λ (q : ℤ). number_of (bytes_of q) ≡ q) e c.set_entry_at.ensures.back) call b' c.write.result c.set_entry_at.new.bytes
+          (c.set_entry_at.ensures.value ∙ ap (changed c.read.new.bytes c.in_ok-row.index) e) c.write.ensures.call;
     }

@@ -10,6 +10,6 @@ returns c =
     let n = c.units.result in
     let mask = c.units.ensures in
     elim c.if-a-self-eq1.branch [
-      | then-a-self-eq1 w ↦ ap (λ z. bit_and z n) w.reduced-is ∙ carried m n mask c.args.a _ w.reducing-polynomial.ensures w.if-a-self-eq1.true
+      | then-a-self-eq1 w ↦ ap (λ z. bit_and z n) w.reduced-is ∙ carried m n mask c.args.a _ w.reducing_polynomial.ensures w.if-a-self-eq1.true
       | else-a-self-eq1 w ↦ ap (λ z. bit_and z n) w.reduced-is ∙ uncarried m n mask c.args.a w.if-a-self-eq1.false
     ]

@@ -13,7 +13,7 @@ loop-p-preserved c =
     let m = c.args.self.now.m in
     let l = c.loop-p in (
       omega arith,
-      c.times-alpha-y.ensures ∙ ap (shift m) l.invariant.1 ∙ power-next m l.p c.args.self.now.fit,
+      c.times_alpha-y.ensures ∙ ap (shift m) l.invariant.1 ∙ power-next m l.p c.args.self.now.fit,
       below_more _ l.p l.invariant.2 (λ e. c.if-y-x.true (l.invariant.1 ∙ e)),
     )
 

@@ -21,7 +21,7 @@ loop-i-preserved c =
       | then-left-eq1 w ↦ w.sum-is ∙ added l.sum l.left l.by w.if-left-eq1.true
       | else-left-eq1 w ↦ w.sum-is ∙ not_added l.sum l.left l.by w.if-left-eq1.false
     ])
-    c.times-alpha-by.ensures
+    c.times_alpha-by.ensures
     ∙ product-next m l.-i l.sum l.left l.by c.loop-i-test.true ∙ l.invariant
 
 pub returns : goal.returns

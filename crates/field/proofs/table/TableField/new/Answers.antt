@@ -28,7 +28,7 @@ loop-p-preserved c =
     let i = l.invariant in
     let en : n ≡ 2 ^ m - 1 = c.units-n.ensures in
     let lt : l.p < 2 ^ m - 1 = omega arith in (
-      c.times-alpha-y.ensures ∙ ap (shift m) i.0 ∙ power-next m l.p fit,
+      c.times_alpha-y.ensures ∙ ap (shift m) i.0 ∙ power-next m l.p fit,
       simp length-set i.1,
       simp length-set i.2,
       fill_first m l.p l.y fit lt i.0 n en l.powers i.1 i.3,

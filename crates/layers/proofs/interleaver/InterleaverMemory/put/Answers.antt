@@ -6,4 +6,4 @@ pub returns : goal.returns
 returns g c =
     let s = c.args.self.now in
     put _ _ (g.M.Memory.means s.below) (interleaver_picks s.depth s.width _) (g.M.Memory.means c.put.new.self)
-    _ _ c.args.v c.in-ok-k.ensures c.put.result c.put.ensures
+    _ _ c.args.v c.in_ok-k.ensures c.put.result c.put.ensures

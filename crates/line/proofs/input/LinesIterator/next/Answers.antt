@@ -7,16 +7,16 @@ use Rattle.line.proofs.input.LinesIterator.next.Goals as goal
 use Rattle.line.proofs.input.LinesIterator.next.Goals.{then-end-input, else-end-input}
 use Rattle.std.proofs.iter.Next.{firm}
 
-pub returns-in-err-end : goal.returns-in-err-end
-returns-in-err-end c =
-    let n = c.in-err-end.ensures in
+pub returns-in_err-end : goal.returns-in_err-end
+returns-in_err-end c =
+    let n = c.in_err-end.ensures in
     rw c.from-residual.ensures (record { steps = (ap lines_of (nil_from_length _ n), refl); goes = firm (tt) (λ h. search rules) })
 
 pub returns : goal.returns
 returns c =
     let s = c.args.self.now.rest.now in
-    let k = c.in-ok-end.end in
-    let f = c.in-ok-end.ensures in
+    let k = c.in_ok-end.end in
+    let f = c.in_ok-end.ensures in
     let z : k ≡ k - 0 = omega arith in
     elim c.if-end-input.branch [
       | then-end-input w ↦

@@ -3,4 +3,4 @@ use Rattle.memory.proofs.Stores.{lent_knocked}
 use Rattle.memory.proofs.lent_bytes.ByteCellsMemory.knock.Goals as goal
 
 pub returns-then-length-n : goal.returns-then-length-n
-returns-then-length-n c = lent_knocked 8 _ c.args.self.now.bytes.now c.turn-byte-run.new.bytes refl (omega arith) _ _ (omega arith) c.turn-byte-run.ensures
+returns-then-length-n c = lent_knocked 8 _ c.args.self.now.bytes.now c.turn_byte_run.new.bytes refl (omega arith) _ _ (omega arith) c.turn_byte_run.ensures

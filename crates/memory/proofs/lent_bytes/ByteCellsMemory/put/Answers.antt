@@ -3,4 +3,4 @@ use Rattle.memory.proofs.Stores.{lent_put}
 use Rattle.memory.proofs.lent_bytes.ByteCellsMemory.put.Goals as goal
 
 pub returns-then-i-cells : goal.returns-then-i-cells
-returns-then-i-cells c = lent_put 8 _ c.args.self.now.bytes.now c.put-byte-cell.new.bytes refl (omega arith) _ _ (omega arith) c.put-byte-cell.ensures
+returns-then-i-cells c = lent_put 8 _ c.args.self.now.bytes.now c.put_byte_cell.new.bytes refl (omega arith) _ _ (omega arith) c.put_byte_cell.ensures
