@@ -1,10 +1,10 @@
 -- The class of w <= t distinct non-zero elements is w; that of t + 1 of them is not t - 1.
-use Rattle.std.proofs.Common.{◌≡◌, ℕ, zero, suc, ◌+◌, ◌<◌, ◌≤◌, Bool, true, false, cond, ◌≢◌, ◌⊎◌, List, [], ◌∷◌, length, sym, refl, ap, ◌∙◌, subst, ap₂, inl, inr, ⊎_elim, arith}
-use Rattle.galois.specs.Ring.{Ops, Ring2, Field2, pow}
+use Rattle.std.proofs.Common.{◌≡◌, ℕ, zero, suc, ◌<◌, ◌≤◌, Bool, true, false, cond, ◌≢◌, List, [], ◌∷◌, length, sym, refl, ap, ◌∙◌, arith}
+use Rattle.galois.specs.Ring.{Ops, Field2}
 use Rattle.galois.specs.Sums.{S, D2, D3, class}
 use Rattle.galois.specs.Lists.{All, Distinct}
-use Rattle.galois.proofs.Solve.{Expr, var, O, I, ◌⊕◌, ◌⊗◌, solve}
-use Rattle.galois.proofs.Determinants.{s_e, D2E, D3E, v0, v1, v2, v3, det1, det2, det3}
+use Rattle.galois.proofs.Solve.{O, ◌⊕◌, ◌⊗◌, solve}
+use Rattle.galois.proofs.Determinants.{s_e, D2E, D3E, v0, v1, v2, det1, det2, det3}
 use Rattle.galois.proofs.Vandermonde.{product-not_zero, sum_not_zero}
 
 module _ {K : Type 0} {P : Ops K} {is0 : K → Bool} (F : Field2 P is0) where

@@ -1,11 +1,11 @@
 -- What holds in every lawful field, at numbers.
-use Rattle.std.proofs.Common.{◌≡◌, ℕ, zero, suc, ◌+◌, ◌-◌, ◌<◌, ◌≤◌, ◌⊎◌, [], ◌∷◌, sym, refl, ap, ◌∙◌, inl, inr, ⊎_elim, arith}
+use Rattle.std.proofs.Common.{◌≡◌, ℕ, ◌-◌, ◌<◌, [], ◌∷◌, sym, refl, ap, ◌∙◌, inl, inr, ⊎_elim, arith}
 use Rattle.std.proofs.lemmas.Bool.{cases_eq}
 use Rattle.galois.specs.Model.{FieldModel, FieldLaws, IsInverse, IsExponent, size, units, power}
 use Rattle.galois.specs.Consequences.{Consequences}
 use Rattle.galois.proofs.Solve.{var, ◌⊕◌, ◌⊗◌, solve}
-use Rattle.galois.proofs.Laws.{power-lt, power-add, power-unit, inverse_of, inverse_zero}
-use Rattle.galois.proofs.Lift.{Element, same, ops, ring2, number, no_divisors}
+use Rattle.galois.proofs.Laws.{power-lt, power-add, inverse_of, inverse_zero}
+use Rattle.galois.proofs.Lift.{Element, same, ring2, number, no_divisors}
 
 module _ (F : FieldModel) (l : FieldLaws F) where
   exponent : (a : ℕ) → a < size F → (p : ℕ) × IsExponent F a p

@@ -1,7 +1,7 @@
 -- What holds of the exponents of the roots, by one computed test for each degree and t.
-use Rattle.std.proofs.Common.{◌≡◌, ℕ, zero, suc, ◌+◌, ◌-◌, ◌*◌, ◌%◌, ◌^◌, ◌<◌, ◌≤◌, Bool, true, false, cond, not, T, eqb, ltb, leb, ◌≢◌, ◌⊎◌, sym, refl, ap, ◌∙◌, subst, inl, inr, arith, eqb→eq, ltb→lt, leb→le, T_not}
+use Rattle.std.proofs.Common.{◌≡◌, ℕ, zero, suc, ◌+◌, ◌-◌, ◌%◌, ◌^◌, ◌<◌, ◌≤◌, Bool, true, false, cond, not, T, eqb, ltb, leb, ◌≢◌, sym, refl, subst, inl, inr, arith, eqb→eq, ltb→lt, leb→le, T_not}
 use Rattle.std.proofs.lemmas.Bool.{cases_eq, eq-eqb}
-use Rattle.galois.specs.Cosets.{At, walk, next, exponent}
+use Rattle.galois.specs.Cosets.{At, walk, exponent}
 use Rattle.galois.specs.House.{Fit}
 use Rattle.galois.specs.Rows.{Few, check_cells}
 use Rattle.galois.proofs.HouseRing.{each}

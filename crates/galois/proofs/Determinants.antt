@@ -1,6 +1,6 @@
 -- The determinants of power sums are products of differences.
-use Rattle.std.proofs.Common.{◌≡◌, ℕ, zero, suc, List, [], ◌∷◌, sym, refl, ap, ◌∙◌, ap₂}
-use Rattle.galois.specs.Ring.{Ops, Ring2, pow}
+use Rattle.std.proofs.Common.{◌≡◌, ℕ, zero, suc, List, [], ◌∷◌}
+use Rattle.galois.specs.Ring.{Ops, Ring2}
 use Rattle.galois.specs.Sums.{S, D2, D3}
 use Rattle.galois.proofs.Solve.{Expr, var, O, I, ◌⊕◌, ◌⊗◌, solve}
 

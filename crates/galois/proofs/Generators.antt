@@ -1,12 +1,12 @@
 -- The generator and the code over any field of characteristic 2 with an element of order n.
-use Rattle.std.proofs.Common.{◌≡◌, ℕ, zero, suc, ◌+◌, ◌-◌, ◌*◌, ◌/◌, ◌%◌, ◌<◌, ◌≤◌, Bool, true, false, cond, eqb, ◌≢◌, ◌⊎◌, List, [], ◌∷◌, sym, refl, ap, ◌∙◌, subst, ap₂, inl, inr, arith}
+use Rattle.std.proofs.Common.{◌≡◌, ℕ, zero, suc, ◌+◌, ◌*◌, ◌/◌, ◌%◌, ◌<◌, ◌≤◌, Bool, true, false, cond, eqb, ◌≢◌, ◌⊎◌, [], ◌∷◌, sym, refl, ap, ◌∙◌, ap₂, inl, inr, arith}
 use Rattle.std.proofs.lemmas.Bool.{cases_eq, cases_lt, cases_order}
 use Rattle.std.proofs.lemmas.Nat.{div-add-mod'}
 use Rattle.galois.specs.Ring.{Ops, Ring2, Field2, pow}
-use Rattle.galois.proofs.Solve.{Expr, var, O, I, ◌⊕◌, ◌⊗◌, solve, mul_zero, zero_add, one_mul, zero_mul, equal_of_sum}
-use Rattle.galois.specs.Polynomials.{value, before, factor, unit, generated}
-use Rattle.galois.specs.Cosets.{At, walk, next, exponent}
-use Rattle.galois.proofs.Polynomials.{pow-add, pow-mul, pow-one, pow-square, value-cong, value_none, value-add, value-scale, value-first, value-split, value-more, value-squares, value-square, all_none, bit_of_lem}
+use Rattle.galois.proofs.Solve.{var, O, I, ◌⊕◌, ◌⊗◌, solve, mul_zero, one_mul, zero_mul, equal_of_sum}
+use Rattle.galois.specs.Polynomials.{value, before, factor, generated}
+use Rattle.galois.specs.Cosets.{At, walk, exponent}
+use Rattle.galois.proofs.Polynomials.{pow-add, pow-mul, pow-one, value_none, value-add, value-scale, value-first, value-split, value-squares, value-square, all_none, bit_of_lem}
 use Rattle.galois.proofs.Cosets.{Fine, first-odd}
 
 module _ {K : Type 0} {P : Ops K} (R : Ring2 P) where

@@ -1,11 +1,11 @@
 -- The house fields are lawful, they are the polynomials modulo the reducing one, and nothing else lawful is.
-use Rattle.std.proofs.Common.{◌≡◌, ℕ, zero, suc, ◌+◌, ◌-◌, ◌*◌, ◌%◌, ◌^◌, ◌<◌, ◌≤◌, ◌⊎◌, sym, refl, ap, ◌∙◌, subst, ap₂, inl, inr, one-mul, pow-suc, arith, pow_pos, pow_mono}
+use Rattle.std.proofs.Common.{◌≡◌, ℕ, zero, suc, ◌+◌, ◌-◌, ◌*◌, ◌%◌, ◌^◌, ◌<◌, ◌≤◌, sym, refl, ap, ◌∙◌, subst, ap₂, inl, inr, one-mul, pow-suc, arith, pow_pos}
 use lib.Bits.{bit_xor, xor_self, xor_shifted}
 use lib.Pow.{pow-lt}
 use Rattle.std.proofs.lemmas.Bool.{cases_eq, cases_order}
 use Rattle.galois.specs.House.{Fit, reducer, shift, product, house, PolynomialField, Alike, HouseField}
 use Rattle.galois.specs.Model.{FieldModel, FieldLaws, power, size, units}
-use Rattle.galois.proofs.Laws.{one_lt, mul_zero, zero_mul, power-lt, power-add}
+use Rattle.galois.proofs.Laws.{mul_zero, zero_mul, power-lt, power-add}
 use Rattle.galois.proofs.HouseLinear.{product-xor}
 use Rattle.galois.proofs.HouseRing.{each, ring_laws, shift-power}
 use Rattle.galois.proofs.HousePowers.{power-laws, times-two}

@@ -1,6 +1,5 @@
 -- The house product is linear in its second factor, and commutes with every linear map that commutes with the shift.
-use Rattle.std.proofs.Common.{◌≡◌, ℕ, zero, suc, ◌+◌, ◌-◌, ◌*◌, ◌/◌, ◌%◌, ◌^◌, ◌<◌, ◌≤◌, sym, refl, ap, ◌∙◌, subst, ap₂, add-zero, mod-lt, arith, lit<, pow_pos}
-use native.Mathlib.Nat.{zero-mod, zero-div}
+use Rattle.std.proofs.Common.{◌≡◌, ℕ, zero, suc, ◌-◌, ◌*◌, ◌/◌, ◌%◌, ◌^◌, ◌<◌, sym, refl, ap, ◌∙◌, ap₂, add-zero, arith, lit<}
 use lib.Bits.{bit_xor, xor_zero_r, xor_self, xor_comm, xor_assoc, xor_block, xor_mod, xor_shr}
 use Rattle.galois.specs.House.{pick, reducer, shift, product}
 

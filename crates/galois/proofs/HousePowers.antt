@@ -1,9 +1,8 @@
 -- The powers of x in the house fields run through every element but zero, once: by one computed test for each degree.
-use Rattle.std.proofs.Common.{◌≡◌, ℕ, zero, suc, ◌+◌, ◌-◌, ◌*◌, ◌/◌, ◌%◌, ◌^◌, ◌<◌, ◌≤◌, Bool, true, false, cond, not, T, eqb, ltb, ◌⊎◌, sym, refl, ap, ◌∙◌, subst, ap₂, inl, inr, suc-add, zero-add, arith, lit<, eqb→eq, ltb→lt, T_not}
-use native.Mathlib.Nat.{zero-div, zero-mod}
+use Rattle.std.proofs.Common.{◌≡◌, ℕ, zero, suc, ◌+◌, ◌-◌, ◌^◌, ◌<◌, ◌≤◌, Bool, true, false, cond, not, T, eqb, ltb, sym, refl, ap, ◌∙◌, subst, inl, inr, suc-add, zero-add, arith, lit<, ltb→lt, T_not}
 use lib.Bits.{bit_xor, xor_zero_r}
-use Rattle.std.proofs.lemmas.Bool.{cases_eq, cases_order, eq-eqb, eqb-true, cases_Bool}
-use Rattle.galois.specs.House.{Fit, pick, reducer, shift, product, house}
+use Rattle.std.proofs.lemmas.Bool.{cases_eq, cases_order, eq-eqb, eqb-true}
+use Rattle.galois.specs.House.{Fit, shift, product, house}
 use Rattle.galois.specs.Model.{PowerLaws, power}
 use Rattle.galois.proofs.HouseRing.{each}
 

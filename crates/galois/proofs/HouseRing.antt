@@ -1,12 +1,12 @@
 -- The ring laws of the house fields, by one argument for every degree.
-use Rattle.std.proofs.Common.{◌≡◌, ℕ, zero, suc, ◌+◌, ◌-◌, ◌*◌, ◌/◌, ◌%◌, ◌^◌, ◌<◌, ◌≤◌, ◌⊎◌, sym, refl, ap, ◌∙◌, subst, ap₂, inl, inr, ⊎_elim, add-zero, mod-lt, mod-eq_of_lt, mul_assoc, mul_comm, add-mul, one-mul, pow-suc, div-add-mod', zero-mul, mul-one, add-one, one-add, arith, lit<, lit≤, pow_pos, shl_lt, shr_lt}
+use Rattle.std.proofs.Common.{◌≡◌, ℕ, zero, suc, ◌+◌, ◌-◌, ◌*◌, ◌/◌, ◌%◌, ◌^◌, ◌<◌, ◌≤◌, sym, refl, ap, ◌∙◌, subst, ap₂, inl, inr, mod-lt, mod-eq_of_lt, mul_assoc, mul_comm, add-mul, one-mul, pow-suc, div-add-mod', zero-mul, mul-one, add-one, one-add, arith, pow_pos, shl_lt, shr_lt}
 use native.Mathlib.Nat.{div-eq_of_lt}
 use Rattle.std.proofs.lemmas.Bool.{cases_eq}
 use lib.Bits.{bit_xor, xor_zero_r, xor_self, xor_comm, xor_assoc, xor_shifted, xor_lt}
 use lib.Pow.{pow-lt}
 use Rattle.galois.specs.House.{Fit, pick, reducer, shift, product, house}
 use Rattle.galois.specs.Model.{RingLaws}
-use Rattle.galois.proofs.HouseLinear.{product-xor, product-shift, product-product, through}
+use Rattle.galois.proofs.HouseLinear.{product-xor, product-product}
 
 -- what holds at each of the five degrees
 pub each : (P : ℕ → Type 0) → P 4 → P 5 → P 6 → P 7 → P 8 → (m : ℕ) → Fit m → P m

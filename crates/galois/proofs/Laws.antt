@@ -1,7 +1,6 @@
 -- What the laws give at once, at numbers: bounds, powers and inverses.
-use Rattle.std.proofs.Common.{◌≡◌, ℕ, zero, suc, ◌+◌, ◌-◌, ◌*◌, ◌/◌, ◌%◌, ◌^◌, ◌<◌, ◌≤◌, ◌⊎◌, sym, refl, ap, ◌∙◌, subst, ap₂, inl, inr, mod-lt, suc-add, zero-add, arith, lit<, pow_pos, pow_mono}
-use Rattle.std.proofs.lemmas.Bool.{cases_eq}
-use Rattle.galois.specs.Model.{FieldModel, FieldLaws, RingLaws, PowerLaws, IsInverse, IsExponent, power, size, units, elem}
+use Rattle.std.proofs.Common.{◌≡◌, ℕ, zero, suc, ◌+◌, ◌-◌, ◌^◌, ◌<◌, ◌≤◌, sym, refl, ap, ◌∙◌, mod-lt, suc-add, zero-add, arith, pow_pos, pow_mono}
+use Rattle.galois.specs.Model.{FieldModel, FieldLaws, IsInverse, IsExponent, power, size, units, elem}
 
 module _ (F : FieldModel) (laws : FieldLaws F) where
   pub elem-lt : (a : ℕ) → elem F a < size F

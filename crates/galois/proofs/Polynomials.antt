@@ -1,10 +1,10 @@
 -- Values of polynomials, and how many roots they have.
-use Rattle.std.proofs.Common.{◌≡◌, ℕ, zero, suc, ◌+◌, ◌*◌, ◌<◌, ◌≤◌, Bool, ◌≢◌, ◌⊎◌, List, [], ◌∷◌, length, sym, refl, ap, ◌∙◌, subst, ap₂, inl, inr, add_zero as plus-zero, add-suc, suc-add as suc-plus, mul_zero as times_zero, zero_add as zero-plus, mul-suc, arith}
+use Rattle.std.proofs.Common.{◌≡◌, ℕ, zero, suc, ◌+◌, ◌*◌, ◌<◌, ◌≤◌, Bool, ◌≢◌, ◌⊎◌, [], ◌∷◌, sym, refl, ap, ◌∙◌, ap₂, inl, inr, add-zero as plus-zero, add-suc, suc-add as suc-plus, mul-zero as times_zero, zero-add as zero-plus, mul-suc, arith}
 use Rattle.galois.specs.Ring.{Ops, Ring2, Field2, pow}
 use Rattle.galois.specs.Lists.{All, Distinct, tabulate}
 use Rattle.galois.proofs.Tabulated.{length-tabulate}
 use Rattle.galois.specs.Sums.{eval}
-use Rattle.galois.proofs.Solve.{Expr, var, O, I, ◌⊕◌, ◌⊗◌, solve, mul_zero, zero_add, one_mul, zero_mul, equal_of_sum}
+use Rattle.galois.proofs.Solve.{var, O, I, ◌⊕◌, ◌⊗◌, solve, mul_zero, one_mul, equal_of_sum}
 use Rattle.galois.proofs.Roots.{too_many_roots}
 use Rattle.galois.specs.Polynomials.{value}
 

@@ -1,5 +1,5 @@
 -- Power sums, at numbers and as values of a polynomial over the elements.
-use Rattle.std.proofs.Common.{◌≡◌, ℕ, zero, suc, ◌+◌, ◌*◌, ◌<◌, Bool, true, false, cond, sym, refl, ap, ◌∙◌, ap₂, arith, pow_pos}
+use Rattle.std.proofs.Common.{◌≡◌, ℕ, zero, suc, ◌*◌, ◌<◌, Bool, true, false, cond, refl, ap₂, arith, pow_pos}
 use Rattle.galois.specs.Model.{FieldModel, FieldLaws, size, power}
 use Rattle.galois.specs.Rows.{power_sum}
 use Rattle.galois.proofs.Laws.{power-lt}

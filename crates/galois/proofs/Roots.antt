@@ -1,9 +1,9 @@
 -- A polynomial with no more coefficients than it has distinct roots is zero.
-use Rattle.std.proofs.Common.{◌≡◌, ℕ, zero, suc, ◌≤◌, Bool, ◌≢◌, List, [], ◌∷◌, length, sym, refl, ap, ◌∙◌, subst, ap₂, arith}
+use Rattle.std.proofs.Common.{◌≡◌, suc, ◌≤◌, Bool, ◌≢◌, List, [], ◌∷◌, length, sym, refl, ap, ◌∙◌, ap₂, arith}
 use Rattle.galois.specs.Ring.{Ops, Field2}
 use Rattle.galois.specs.Lists.{All, Distinct}
 use Rattle.galois.specs.Sums.{eval}
-use Rattle.galois.proofs.Solve.{Expr, var, O, I, ◌⊕◌, ◌⊗◌, solve, mul_zero, zero_add}
+use Rattle.galois.proofs.Solve.{var, O, ◌⊕◌, ◌⊗◌, solve, mul_zero}
 use Rattle.galois.proofs.Vandermonde.{all_map2, cancel, sum_not_zero}
 
 module _ {K : Type 0} {P : Ops K} {is0 : K → Bool} (F : Field2 P is0) where

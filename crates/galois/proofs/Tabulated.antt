@@ -1,5 +1,5 @@
 -- Lists and functions of the index: each is the other's, as far as the list goes.
-use Rattle.std.proofs.Common.{◌≡◌, ℕ, zero, suc, ◌+◌, ◌<◌, List, [], ◌∷◌, length, get_or, drop, sym, refl, ap, ◌∙◌, subst, ap₂, suc-add, zero-add, arith}
+use Rattle.std.proofs.Common.{◌≡◌, ℕ, zero, suc, ◌+◌, ◌<◌, List, [], ◌∷◌, length, get_or, drop, sym, refl, ap, ◌∙◌, ap₂, suc-add, zero-add, arith}
 use Rattle.galois.specs.Lists.{tabulate}
 
 module _ {A : Type 0} where

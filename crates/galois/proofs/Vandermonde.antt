@@ -1,9 +1,9 @@
 -- A sum of c a * (X a)^j over distinct non-zero X a that is 0 at as many powers as there are terms has every c a zero.
-use Rattle.std.proofs.Common.{◌≡◌, ℕ, zero, suc, ◌+◌, ◌*◌, ◌<◌, ◌≤◌, Bool, ◌≢◌, ◌⊎◌, List, [], ◌∷◌, length, sym, refl, ap, ◌∙◌, ap₂, inl, inr, ⊎_elim, add-suc, suc-add as suc-plus, zero_add as zero-plus, arith}
+use Rattle.std.proofs.Common.{◌≡◌, ℕ, zero, suc, ◌+◌, ◌<◌, ◌≤◌, Bool, ◌≢◌, ◌⊎◌, List, [], ◌∷◌, length, sym, refl, ap, ◌∙◌, ap₂, inl, inr, ⊎_elim, suc-add as suc-plus, zero-add as zero-plus, arith}
 use Rattle.galois.specs.Ring.{Ops, Field2, pow}
 use Rattle.galois.specs.Sums.{S, weighed}
 use Rattle.galois.specs.Lists.{All, Distinct}
-use Rattle.galois.proofs.Solve.{Expr, var, O, I, ◌⊕◌, ◌⊗◌, solve, zero_add, mul_zero, one_mul, equal_of_sum}
+use Rattle.galois.proofs.Solve.{var, O, I, ◌⊕◌, ◌⊗◌, solve, mul_zero, one_mul, equal_of_sum}
 
 module _ {A : Type 0} where
   pub all_map : {P Q : A → Type 0} → ((a : A) → P a → Q a) → (l : List A) → All P l → All Q l

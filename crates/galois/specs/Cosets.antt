@@ -1,5 +1,5 @@
 -- The exponents of the generator's roots: the cyclotomic coset of 1 (1 and its doubles modulo n), then that of 3, then that of 5.
-use Rattle.std.specs.Prelude.{ℕ, zero, suc, ◌+◌, ◌*◌, ◌%◌, Bool, cond, ◌==◌}
+use Rattle.std.specs.Prelude.{ℕ, zero, suc, ◌+◌, ◌%◌, cond, ◌==◌}
 
 -- the first of the doubles, and the one reached
 pub record At : Type 0 where
