@@ -1,9 +1,9 @@
 -- The syndromes of a row byte by byte, and the turn of the loop that fills their table. The sums of a house field go bit by bit.
-use Rattle.std.proofs.Common.{◌≡◌, ℕ, zero, suc, ◌+◌, ◌-◌, ◌*◌, ◌/◌, ◌%◌, ◌^◌, ◌<◌, ◌≤◌, Bool, true, false, cond, eqb, ◌≢◌, ◌⊎◌, List, length, get_or, set, sym, refl, ap, ◌∙◌, subst, ap₂, inl, inr, add-zero, add-suc, one-mul, arith, pow_mono}
+use Rattle.std.proofs.Common.{◌≡◌, ℕ, zero, suc, ◌+◌, ◌*◌, ◌/◌, ◌%◌, ◌^◌, ◌<◌, ◌≤◌, Bool, true, false, cond, eqb, ◌≢◌, List, length, get_or, set, sym, refl, ap, ◌∙◌, ap₂, inl, inr, add-zero, add-suc, one-mul, arith, pow_mono}
 use native.Mathlib.Nat.{div-eq_of_lt}
-use lib.Bits.{bit_xor, xor_zero_r, xor_assoc, xor_comm, xor_shifted}
+use lib.Bits.{bit_xor, xor_zero_r, xor_assoc, xor_shifted}
 use Rattle.std.proofs.lemmas.List.{get_or-set_same, get_or-set_other}
-use Rattle.std.proofs.lemmas.Bool.{cases_eq, cases_order}
+use Rattle.std.proofs.lemmas.Bool.{cases_eq}
 use Rattle.bits.specs.Bits.{xor, bit_of, bit_at}
 use Rattle.bits.proofs.Turning.{pow-bit_same, pow-bit_other, bit_of-xor, bit_of-zero}
 use Rattle.galois.specs.House.{house}

@@ -1,8 +1,8 @@
 -- What the tables of a house field answer, and the turn of the loop that fills them.
-use Rattle.std.proofs.Common.{◌≡◌, ℕ, ◌+◌, ◌-◌, ◌^◌, ◌<◌, ◌≤◌, ◌≢◌, ◌⊎◌, List, length, get_or, set, sym, ap, ◌∙◌, subst, ap₂, inl, inr, arith, length-set, get_or-set_other, get_or-set_same, below_more}
+use Rattle.std.proofs.Common.{◌≡◌, ℕ, ◌+◌, ◌-◌, ◌^◌, ◌<◌, ◌≤◌, ◌≢◌, List, length, get_or, set, sym, ap, ◌∙◌, subst, ap₂, inl, inr, arith, length-set, get_or-set_other, get_or-set_same, below_more}
 use Rattle.std.proofs.lemmas.Bool.{cases_eq, cases_order}
 use Rattle.galois.specs.House.{Fit, house, product}
-use Rattle.galois.specs.Model.{FieldLaws, IsExponent, IsInverse, power}
+use Rattle.galois.specs.Model.{IsExponent, IsInverse, power}
 use Rattle.galois.proofs.House.{house-laws}
 use Rattle.galois.proofs.Laws.{power-unit, power-add, power-lt, inverse_of}
 use Rattle.galois.proofs.Consequences.{consequences}

@@ -1,5 +1,5 @@
 -- A mask of m set bits reads a number modulo 2 ^ m.
-use Rattle.std.proofs.Common.{◌≡◌, ℕ, ◌-◌, ◌*◌, ◌/◌, ◌%◌, ◌^◌, ◌<◌, ◌≤◌, sym, ap, ◌∙◌, subst, ap₂, mod-lt, arith, lit≤, pow_pos}
+use Rattle.std.proofs.Common.{◌≡◌, ℕ, ◌-◌, ◌*◌, ◌/◌, ◌%◌, ◌^◌, ◌<◌, ◌≤◌, sym, ap, ◌∙◌, subst, mod-lt, arith, lit≤, pow_pos}
 use lib.Bits.{bit_and, bit_xor, and_mask, xor_mod, xor_zero_r}
 use Rattle.galois.specs.House.{Fit, pick, reducer, shift}
 use Rattle.galois.proofs.HouseRing.{each}

@@ -1,5 +1,5 @@
 -- The syndromes of one position more.
-use Rattle.std.proofs.Common.{◌≡◌, ℕ, zero, suc, ◌+◌, ◌*◌, ◌/◌, ◌%◌, ◌<◌, Bool, true, false, cond, List, get_or, sym, refl, ap, ◌∙◌, ap₂, add-one, arith}
+use Rattle.std.proofs.Common.{◌≡◌, ℕ, ◌+◌, ◌*◌, ◌/◌, ◌%◌, ◌<◌, Bool, true, false, cond, List, get_or, sym, refl, ap, ◌∙◌, ap₂, add-one, arith}
 use Rattle.bits.specs.Bits.{bit_of, bit_at}
 use Rattle.galois.specs.Model.{FieldModel, FieldLaws, power, sum_of, product-of}
 use Rattle.galois.specs.Rows.{power_sum}

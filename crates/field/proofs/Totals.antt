@@ -1,5 +1,5 @@
 -- A sum that is taken from the left is the total.
-use Rattle.std.proofs.Common.{◌≡◌, ℕ, suc, ◌+◌, ◌<◌, List, [], ◌∷◌, length, get_or, drop, sym, ap, ◌∙◌, mod-eq_of_lt, add-one, drop-cons, pow_pos}
+use Rattle.std.proofs.Common.{◌≡◌, ℕ, ◌+◌, ◌<◌, List, [], ◌∷◌, length, get_or, drop, sym, ap, ◌∙◌, mod-eq_of_lt, add-one, drop-cons, pow_pos}
 use lib.Seq.{drop-length}
 use Rattle.galois.specs.Model.{FieldModel, FieldLaws, elem, size, sum_of}
 use Rattle.galois.proofs.Laws.{elem-lt}

@@ -19,28 +19,28 @@ pub times_factor-g-requires : goal.times_factor-g-requires
 times_factor-g-requires g c =
     let F = g.F.Field.model c.args.f.now in
     let laws = g.F.Field.lawful c.args.f.now in (
-      λ i h. subst (λ z. z < size F) (sym (c.loop-d.invariant.4 i h)) (coefficient-lt F laws c.loop-d.-d i),
+      λ i h. subst (λ z. z < size F) (sym (c.loop-d.invariant.4 i h)) (coefficient-lt F laws c.loop-d._d i),
       subst (λ z. z < size F) (sym c.loop-d.invariant.3) (power-lt F laws c.loop-d.here),
     )
 
-pub overflow-mul-here : goal.overflow-mul-here
-overflow-mul-here g c =
+pub overflow_mul-here : goal.overflow_mul-here
+overflow_mul-here g c =
     let F = g.F.Field.model c.args.f.now in
     let laws = g.F.Field.lawful c.args.f.now in
     let l = c.loop-d in
-    let h = here_byte F laws c.args.t l.-d c.check_cells-d-end.result l.here c.requires c.check_cells-d-end.ensures c.loop-d-test.true l.invariant.1 in
+    let h = here_byte F laws c.args.t l._d c.check_cells-d-end.result l.here c.requires c.check_cells-d-end.ensures c.loop-d-test.true l.invariant.1 in
     search rules
 
-pub nonzero-rem-here : goal.nonzero-rem-here
-nonzero-rem-here g c =
+pub nonzero_rem-here : goal.nonzero_rem-here
+nonzero_rem-here g c =
     subst (λ z. 0 < z) (sym c.row_cells-n.ensures) (units-pos (g.F.Field.model c.args.f.now) (g.F.Field.lawful c.args.f.now))
 
-pub overflow-add-first : goal.overflow-add-first
-overflow-add-first g c =
+pub overflow_add-first : goal.overflow_add-first
+overflow_add-first g c =
     let F = g.F.Field.model c.args.f.now in
     let laws = g.F.Field.lawful c.args.f.now in
     let l = c.loop-d in
-    let h = first-lt F laws c.args.t l.-d c.check_cells-d-end.result l.first c.requires c.check_cells-d-end.ensures c.loop-d-test.true l.invariant.0 in
+    let h = first-lt F laws c.args.t l._d c.check_cells-d-end.result l.first c.requires c.check_cells-d-end.ensures c.loop-d-test.true l.invariant.0 in
     search rules
 
 pub loop-d-preserved : goal.loop-d-preserved
@@ -51,12 +51,12 @@ loop-d-preserved g c =
     let j = c.if-here-first in
     let n = units F in
     let i = l.invariant in
-    let twice : (2 * l.here) % c.row_cells-n.result ≡ (2 * (walk n l.-d).here) % n = ap₂ (λ h k. (2 * h) % k) i.1 c.row_cells-n.ensures in
+    let twice : (2 * l.here) % c.row_cells-n.result ≡ (2 * (walk n l._d).here) % n = ap₂ (λ h k. (2 * h) % k) i.1 c.row_cells-n.ensures in
     let squared = c.mul-square.ensures ∙ ap₂ (product-of F) c.alpha.ensures c.alpha-2.ensures in
-    let all : (j.first ≡ (walk n (l.-d + 1)).first) × (j.here ≡ (walk n (l.-d + 1)).here) × (j.lead ≡ power F j.first) × (j.root ≡ power F j.here) =
+    let all : (j.first ≡ (walk n (l._d + 1)).first) × (j.here ≡ (walk n (l._d + 1)).here) × (j.lead ≡ power F j.first) × (j.root ≡ power F j.here) =
     elim c.if-here-first.branch [
       | then-here-first w ↦
-          let e = walk-wraps n l.-d (sym twice ∙ w.if-here-first.true ∙ i.0) in
+          let e = walk-wraps n l._d (sym twice ∙ w.if-here-first.true ∙ i.0) in
           let p = power-two-more F laws l.first l.lead c.mul-square.result w.mul-lead.result i.2 squared w.mul-lead.ensures in (
             w.first-is ∙ ap (λ y. y + 2) i.0 ∙ e.0,
             w.here-is ∙ ap (λ y. y + 2) i.0 ∙ e.1,
@@ -64,7 +64,7 @@ loop-d-preserved g c =
             w.root-is ∙ p ∙ ap (power F) (sym w.here-is),
           )
       | else-here-first w ↦
-          let e = walk-goes n l.-d (λ q. w.if-here-first.false (twice ∙ q ∙ sym i.0)) in
+          let e = walk-goes n l._d (λ q. w.if-here-first.false (twice ∙ q ∙ sym i.0)) in
           let p = power-twice F laws l.here l.root c.mul-root.result c.row_cells-n.result c.row_cells-n.ensures i.3 c.mul-root.ensures in (
             w.first-is ∙ i.0 ∙ e.0,
             w.here-is ∙ twice ∙ e.1,
@@ -76,5 +76,5 @@ loop-d-preserved g c =
       all.1,
       all.2,
       all.3,
-      more-factors F laws l.-d l.root l.g c.times_factor-g.result (i.3 ∙ ap (power F) i.1) i.4 c.times_factor-g.ensures,
+      more-factors F laws l._d l.root l.g c.times_factor-g.result (i.3 ∙ ap (power F) i.1) i.4 c.times_factor-g.ensures,
     )

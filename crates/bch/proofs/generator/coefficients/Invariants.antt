@@ -7,8 +7,8 @@ use Rattle.bch.proofs.generator.coefficients.Given as goal
 abbrev pub invariant-loop-d : goal.invariant-loop-d
 invariant-loop-d g l =
     let F = g.F.Field.model l.f in
-    (l.first ≡ (walk (units F) l.-d).first)
-    × (l.here ≡ (walk (units F) l.-d).here)
+    (l.first ≡ (walk (units F) l._d).first)
+    × (l.here ≡ (walk (units F) l._d).here)
     × (l.lead ≡ power F l.first)
     × (l.root ≡ power F l.here)
-    × ((i : ℕ) → i < 25 → get_or l.g i 0 ≡ coefficient F l.-d i)
+    × ((i : ℕ) → i < 25 → get_or l.g i 0 ≡ coefficient F l._d i)

@@ -9,8 +9,8 @@ returns-then-first-i c = record {
   is = λ e. absurd (false≢true e);
   told = λ long same.
       let i = c.loop-i.i in
-      let a : get_or c.args.first.now i 0 < 256 = omega (arith, c.type-inv.first i) in
-      let b : get_or c.args.second.now i 0 < 256 = omega (arith, c.type-inv.second i) in
+      let a : get_or c.args.first.now i 0 < 256 = omega (arith, c.type_inv.first i) in
+      let b : get_or c.args.second.now i 0 < 256 = omega (arith, c.type_inv.second i) in
       absurd (c.if-first-i.true (same_byte c.args.first.now c.args.second.now i same a b));
 }
 

@@ -1,5 +1,4 @@
 use Rattle.std.proofs.Common.{◌≡◌, suc, ◌+◌, ◌*◌, ◌^◌, sym, refl, ap, ◌∙◌, subst, add-zero, pow-suc, mul-zero, mul-suc, add-one, arith, length-set}
-use Rattle.std.proofs.lemmas.Nat.{one_shl}
 use Rattle.bits.proofs.Turning.{zero_at}
 use Rattle.galois.specs.House.{house}
 use Rattle.galois.specs.Model.{power}

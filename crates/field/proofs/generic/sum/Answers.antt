@@ -1,4 +1,4 @@
-use Rattle.std.proofs.Common.{◌≡◌, ◌+◌, ◌<◌, get_or, drop, sym, ap, ◌∙◌, subst, arith, pow_pos}
+use Rattle.std.proofs.Common.{◌+◌, ◌<◌, get_or, drop, sym, ap, ◌∙◌, subst, arith, pow_pos}
 use Rattle.galois.specs.Model.{size}
 use Rattle.field.specs.Totals.{total}
 use Rattle.field.proofs.Totals.{sum_lt, total-start, total-next, total-done}

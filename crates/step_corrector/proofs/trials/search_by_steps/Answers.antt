@@ -5,7 +5,7 @@ use Rattle.galois.proofs.Powers.{next_power}
 use Rattle.field.specs.Syndromes.{syndromes_of}
 use Rattle.step_corrector.proofs.Stepping.{Known, known_start, known_turn, known_leave, known_found, known_none, known_beyond}
 use Rattle.step_corrector.proofs.trials.search_by_steps.Goals as goal
-use Rattle.step_corrector.proofs.trials.search_by_steps.Goals.{in-Some, in-default-try_position}
+use Rattle.step_corrector.proofs.trials.search_by_steps.Goals.{in-Some, in_default-try_position}
 
 pub loop-p-init : goal.loop-p-init
 unfolding power
@@ -33,13 +33,13 @@ loop-p-preserved g c =
             c.loop-p.count c.loop-p.stands (c.loop-p.invariant.2 es) lt room c.loop-p.invariant.0 w.in-Some.kept c.match-try_position.stands
             c.match-try_position.count w.count-is w.stands-is w.in-Some.ensures,
       )
-      | in-default-try_position w ↦ (
+      | in_default-try_position w ↦ (
         x,
         omega (arith, w.count-is),
         λ es.
             known_leave F laws c.args.t c.requires.few c.args.row.now c.loop-p.row c.try_position.new.row c.loop-p.p c.loop-p.x
             c.loop-p.count c.loop-p.stands (c.loop-p.invariant.2 es) lt room c.loop-p.invariant.0 c.match-try_position.stands
-            c.match-try_position.count w.count-is w.stands-is w.in-default-try_position.ensures,
+            c.match-try_position.count w.count-is w.stands-is w.in_default-try_position.ensures,
       )
     ]
 
@@ -58,8 +58,8 @@ returns-in-Clean-class g c = λ es.
     known_found (g.F.Field.model c.args.f.now) (g.F.Field.lawful c.args.f.now) c.args.t c.requires.few c.args.row.now c.loop-p.row
     c.loop-p.p c.loop-p.count c.loop-p.stands (c.loop-p.invariant.2 (es ∙ ap (syndromes_of _ _) c.requires.all)) (let z = c.requires.all in omega arith) c.in-Clean-class.is
 
-pub returns-in-default-class : goal.returns-in-default-class
-returns-in-default-class g c = λ es.
+pub returns-in_default-class : goal.returns-in_default-class
+returns-in_default-class g c = λ es.
     known_none (g.F.Field.model c.args.f.now) (g.F.Field.lawful c.args.f.now) c.args.t c.requires.few c.args.row.now c.loop-p.row
     c.loop-p.p c.loop-p.count c.loop-p.stands (c.loop-p.invariant.2 (es ∙ ap (syndromes_of _ _) c.requires.all)) (let z = c.requires.all in omega arith)
-    (let z = c.requires.all in omega arith) c.in-default-class.not-Clean
+    (let z = c.requires.all in omega arith) c.in_default-class.not-Clean

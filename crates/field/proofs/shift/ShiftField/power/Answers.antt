@@ -11,4 +11,4 @@ loop-i-init c = refl
 pub loop-i-preserved : goal.loop-i-preserved
 loop-i-preserved c =
     let m = c.args.self.now.m in
-    c.times_alpha-y.ensures ∙ ap (shift m) c.loop-i.invariant ∙ power-next m c.loop-i.-i c.args.self.now.fit
+    c.times_alpha-y.ensures ∙ ap (shift m) c.loop-i.invariant ∙ power-next m c.loop-i._i c.args.self.now.fit

@@ -1,4 +1,4 @@
-use Rattle.std.proofs.Common.{◌≡◌, sym, refl, ap, ◌∙◌, mod-lt, arith, pow_pos, below_more}
+use Rattle.std.proofs.Common.{sym, refl, ap, ◌∙◌, mod-lt, arith, pow_pos, below_more}
 use Rattle.galois.specs.House.{shift}
 use Rattle.galois.specs.Model.{power}
 use Rattle.field.proofs.Turns.{power-next, found, not_found}

@@ -1,6 +1,6 @@
 use Rattle.std.proofs.Common.{◌≡◌, ◌+◌, ◌-◌, ◌/◌, sym, ap, ◌∙◌, ap₂, arith}
 use lib.Bits.{bit_xor}
-use Rattle.galois.specs.House.{product, shift}
+use Rattle.galois.specs.House.{product}
 use Rattle.field.proofs.Turns.{product-next, product-done, added, not_added}
 use Rattle.field.proofs.shift.ShiftFieldField.mul.Goals as goal
 use Rattle.field.proofs.shift.ShiftFieldField.mul.Goals.{then-left-eq1, else-left-eq1}
@@ -16,15 +16,15 @@ pub loop-i-preserved : goal.loop-i-preserved
 loop-i-preserved c =
     let m = c.args.self.now.m in
     let l = c.loop-i in
-    ap₂ (λ s b. bit_xor s (product m (m - (l.-i + 1)) (l.left / 2) b))
+    ap₂ (λ s b. bit_xor s (product m (m - (l._i + 1)) (l.left / 2) b))
     (elim c.if-left-eq1.branch [
       | then-left-eq1 w ↦ w.sum-is ∙ added l.sum l.left l.by w.if-left-eq1.true
       | else-left-eq1 w ↦ w.sum-is ∙ not_added l.sum l.left l.by w.if-left-eq1.false
     ])
     c.times_alpha-by.ensures
-    ∙ product-next m l.-i l.sum l.left l.by c.loop-i-test.true ∙ l.invariant
+    ∙ product-next m l._i l.sum l.left l.by c.loop-i-test.true ∙ l.invariant
 
 pub returns : goal.returns
 returns c =
     let l = c.loop-i in
-    sym (product-done c.args.self.now.m l.-i l.sum l.left l.by c.loop-i-test.false) ∙ l.invariant
+    sym (product-done c.args.self.now.m l._i l.sum l.left l.by c.loop-i-test.false) ∙ l.invariant

@@ -13,8 +13,8 @@ loop-p-init c =
 y-byte : (c : goal.In-loop-p) → c.loop-p.y < 256
 y-byte c = subst (λ z. z < 256) (sym c.loop-p.invariant.0) (power-byte c.new-base.result.m c.loop-p.p c.new-base.result.fit)
 
-pub overflow-cast-exponents : goal.overflow-cast-exponents
-overflow-cast-exponents c = let h = y-byte c in search rules
+pub overflow_cast-exponents : goal.overflow_cast-exponents
+overflow_cast-exponents c = let h = y-byte c in search rules
 
 pub bounds-exponents-y : goal.bounds-exponents-y
 bounds-exponents-y c = y-byte c

@@ -5,8 +5,8 @@ use Rattle.field.proofs.Reduced.{reduced_lt}
 use Rattle.field.proofs.Lookups.{exponent_lt, inverse_at}
 use Rattle.field.proofs.table.TableFieldField.inverse.Goals as goal
 
-pub overflow-sub-result : goal.overflow-sub-result
-overflow-sub-result c =
+pub overflow_sub-result : goal.overflow_sub-result
+overflow_sub-result c =
     let s = c.args.self.now in
     let m = s.base.m in
     let x = c.element-x.result in

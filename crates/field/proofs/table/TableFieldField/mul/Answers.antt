@@ -1,4 +1,4 @@
-use Rattle.std.proofs.Common.{◌≡◌, ◌⊎◌, sym, ap, ◌∙◌, ap₂, inl, inr, mod-lt, pow_pos}
+use Rattle.std.proofs.Common.{sym, ap, ◌∙◌, ap₂, inl, inr, mod-lt, pow_pos}
 use Rattle.galois.specs.House.{house, product}
 use Rattle.galois.specs.Model.{elem}
 use Rattle.galois.proofs.House.{house-laws}

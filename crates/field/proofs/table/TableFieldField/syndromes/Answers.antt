@@ -14,7 +14,7 @@ loop-q-preserved c =
     let row = c.args.row.now in
     let l = c.loop-q in
     let inside : l.q < 32 = omega arith in
-    let byte : get_or row l.q 0 < 256 = omega (arith, c.type-inv.row l.q) in (
+    let byte : get_or row l.q 0 < 256 = omega (arith, c.type_inv.row l.q) in (
       sum_byte m 1 l.q l.s1 row s.first_sums s.summed.0 inside byte l.invariant.0,
       sum_byte m 3 l.q l.s3 row s.third_sums s.summed.1 inside byte l.invariant.1,
       sum_byte m 5 l.q l.s5 row s.fifth_sums s.summed.2 inside byte l.invariant.2,
