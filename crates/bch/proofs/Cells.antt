@@ -2,9 +2,9 @@
 use Rattle.std.proofs.Common.{◌≡◌, ℕ, zero, suc, ◌*◌, Bool, true, false, cond, eqb, ◌⊎◌, sym, refl, ap, ◌∙◌, ap₂, inl, inr, arith}
 use Rattle.bits.specs.Bits.{xor}
 use Rattle.galois.specs.Cosets.{exponent}
-use Rattle.galois.specs.Model.{FieldModel, FieldLaws, units, power}
+use Rattle.galois.specs.Model.{FieldModel, FieldLaws, units}
 use Rattle.galois.specs.Polynomials.{value, generated}
-use Rattle.galois.specs.Ring.{Ops, Ring2, pow}
+use Rattle.galois.specs.Ring.{pow}
 use Rattle.galois.specs.Rows.{power_sum}
 use Rattle.galois.proofs.Solve.{mul_zero, zero_mul, one_mul, zero_add}
 use Rattle.galois.proofs.Polynomials.{pow-mul}

@@ -1,16 +1,16 @@
 -- Code rows by the roots of the generator: two with the same data are one, and the register's row is one. Rows are functions of the
 -- position here.
-use Rattle.std.proofs.Common.{◌≡◌, ℕ, zero, suc, ◌+◌, ◌-◌, ◌*◌, ◌^◌, ◌<◌, ◌≤◌, Bool, true, false, cond, eqb, ◌⊎◌, List, [], ◌∷◌, sym, refl, ap, ◌∙◌, subst, ap₂, inl, inr, arith}
+use Rattle.std.proofs.Common.{◌≡◌, ℕ, suc, ◌+◌, ◌-◌, ◌<◌, ◌≤◌, Bool, eqb, ◌⊎◌, sym, ap, ◌∙◌, subst, ap₂, inl, inr, arith}
 use Rattle.bits.specs.Bits.{bit_of}
 use Rattle.galois.specs.Model.{FieldModel, FieldLaws, units}
 use Rattle.galois.specs.Polynomials.{value, generated}
-use Rattle.galois.specs.Ring.{Ops, Ring2, Field2, pow}
+use Rattle.galois.specs.Ring.{pow}
 use Rattle.galois.specs.Rows.{Few, check_cells, data_cells}
 use Rattle.galois.proofs.Polynomials.{value-cong, value-split}
 use Rattle.galois.proofs.Cosets.{Fine, fine}
 use Rattle.galois.proofs.Generators.{generator_bit, generator-low, starts_vanish, only_one}
 use Rattle.galois.proofs.Least.{Code}
-use Rattle.galois.proofs.Lift.{Element, same, ops, ring2, field2, number, alpha, turn, once}
+use Rattle.galois.proofs.Lift.{same, ops, ring2, field2, number, alpha, turn, once}
 use Rattle.bch.specs.Steps.{coefficient, register}
 use Rattle.bch.proofs.Cells.{bitK, bit_k_square, bit_k_once, bit_k_of, rowValue, powerSum-value, rootAt, generated-number}
 use Rattle.bch.proofs.Registers.{bitsK, register-value}

@@ -1,18 +1,18 @@
 -- The row that is laid down is the systematic code row of the data, and the one by division.
-use Rattle.std.proofs.Common.{◌≡◌, ℕ, zero, suc, ◌+◌, ◌-◌, ◌*◌, ◌/◌, ◌%◌, ◌^◌, ◌<◌, ◌≤◌, Bool, true, false, cond, eqb, ltb, ◌⊎◌, List, length, get_or, drop, sym, refl, ap, ◌∙◌, subst, ap₂, inl, inr, arith, get_or-drop, pow_mono}
+use Rattle.std.proofs.Common.{◌≡◌, ℕ, suc, ◌+◌, ◌-◌, ◌%◌, ◌^◌, ◌<◌, ◌≤◌, Bool, false, cond, eqb, ltb, ◌⊎◌, List, get_or, drop, sym, ap, ◌∙◌, subst, ap₂, inl, inr, arith, get_or-drop, pow_mono}
 use native.Mathlib.Nat.{div-eq_of_lt}
 use Rattle.std.proofs.lemmas.Bool.{cases_lt, lt-ltb, le-ltb}
 use Rattle.bits.specs.Bits.{xor, bit_of, bit_at, Sized, Buffer}
 use Rattle.bits.proofs.Turning.{xor-false}
 use Rattle.galois.specs.Lists.{tabulate}
 use Rattle.galois.specs.Model.{FieldModel, FieldLaws, units}
-use Rattle.galois.specs.Rows.{Few, power_sum, cell_of, CodeRow, check_cells, data_cells, data_of, Systematic}
+use Rattle.galois.specs.Rows.{Few, power_sum, cell_of, CodeRow, check_cells, data_cells, Systematic}
 use Rattle.galois.proofs.Least.{Code, code_cells}
 use Rattle.galois.proofs.PowerSums.{power_sum-cong}
 use Rattle.galois.proofs.Tabulated.{length-tabulate, get_d_tabulate, tabulate-cong, drop-tabulate, same_list}
 use Rattle.bch.specs.Buffers.{shown}
-use Rattle.bch.specs.Published.{shifted, product, IsGenerator, ByDivision}
-use Rattle.bch.specs.Steps.{coefficient, register, laid}
+use Rattle.bch.specs.Published.{shifted, IsGenerator, ByDivision}
+use Rattle.bch.specs.Steps.{register, laid}
 use Rattle.bch.proofs.CodeRows.{Packs, all_cells, one_row, register-code}
 use Rattle.bch.proofs.Published.{g, generates, code_multiple, xor_self, shifted-low, shifted-from}
 

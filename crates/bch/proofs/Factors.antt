@@ -1,15 +1,15 @@
 -- The turns of the loops that make the generator: the walk over the cosets, its powers, and one factor more.
-use Rattle.std.proofs.Common.{◌≡◌, ℕ, zero, suc, ◌+◌, ◌-◌, ◌*◌, ◌/◌, ◌%◌, ◌^◌, ◌<◌, ◌≤◌, Bool, true, false, cond, eqb, ◌≢◌, ◌⊎◌, List, [], ◌∷◌, length, get_or, set, replicate, sym, refl, ap, ◌∙◌, subst, ap₂, inl, inr, mod-eq_of_lt, add-one, arith, get_or-set_other, get_or-set_same, below_more}
+use Rattle.std.proofs.Common.{◌≡◌, ℕ, zero, suc, ◌+◌, ◌*◌, ◌%◌, ◌<◌, true, false, cond, eqb, ◌≢◌, List, ◌∷◌, length, get_or, set, replicate, sym, refl, ap, ◌∙◌, subst, ap₂, mod-eq_of_lt, add-one, arith, get_or-set_other, get_or-set_same, below_more}
 use lib.ListN.{get_or-replicate}
 use Rattle.galois.specs.Ring.{numbers}
 use Rattle.std.proofs.lemmas.Bool.{eq-eqb, ne_eqb}
-use Rattle.galois.specs.Cosets.{At, walk, exponent}
+use Rattle.galois.specs.Cosets.{At, walk}
 use Rattle.galois.specs.Model.{FieldModel, FieldLaws, size, units, power, sum_of, product-of}
 use Rattle.galois.specs.Polynomials.{before, factor, generated}
 use Rattle.galois.specs.Rows.{Few, check_cells}
 use Rattle.galois.proofs.Generators.{pow-double}
 use Rattle.galois.proofs.Laws.{power-lt, power-add}
-use Rattle.galois.proofs.Lift.{Element, ops, field2, number, alpha, turn, once, pow-power}
+use Rattle.galois.proofs.Lift.{ops, field2, number, alpha, turn, once, pow-power}
 use Rattle.bch.specs.Steps.{coefficient}
 use Rattle.bch.proofs.Cells.{rootAt, generated-number}
 use Rattle.bch.proofs.CodeRows.{is_fine}

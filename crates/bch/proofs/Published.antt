@@ -1,18 +1,17 @@
 -- The product of the factors is the published generator, and the code rows are its multiples. Rows are functions of the position here.
-use Rattle.std.proofs.Common.{◌≡◌, ℕ, zero, suc, ◌+◌, ◌-◌, ◌*◌, ◌<◌, ◌≤◌, Bool, true, false, cond, not, eqb, ◌≢◌, ◌⊎◌, List, [], ◌∷◌, sym, refl, ap, ◌∙◌, subst, ap₂, inl, inr, arith}
+use Rattle.std.proofs.Common.{◌≡◌, ℕ, zero, suc, ◌+◌, ◌-◌, ◌<◌, ◌≤◌, Bool, true, false, cond, eqb, ◌⊎◌, [], ◌∷◌, sym, refl, ap, ◌∙◌, ap₂, inl, inr, arith}
 use Rattle.std.proofs.lemmas.Bool.{cases_eq, eq-eqb, ne_eqb}
 use Rattle.bits.specs.Bits.{xor}
 use Rattle.galois.specs.Model.{FieldModel, FieldLaws, units}
 use Rattle.galois.specs.Polynomials.{value, generated}
-use Rattle.galois.specs.Ring.{Ops, Ring2, Field2, pow}
-use Rattle.galois.specs.Rows.{Few, power_sum, check_cells, data_cells}
+use Rattle.galois.specs.Ring.{pow}
+use Rattle.galois.specs.Rows.{Few, check_cells, data_cells}
 use Rattle.galois.proofs.Solve.{var, O, ◌⊕◌, ◌⊗◌, solve, mul_zero}
 use Rattle.galois.proofs.Polynomials.{pow-add, value-cong, value_none, value-add, value-scale, value-split, value-more, value-square, all_none}
-use Rattle.galois.proofs.Cosets.{Fine}
 use Rattle.galois.proofs.Generators.{roots, above, top, vanishes-at, roots_apart, starts_vanish}
 use Rattle.galois.proofs.Least.{Code}
 use Rattle.galois.proofs.Lift.{Element, same, ops, ring2, field2, number, alpha, turn, once}
-use Rattle.bch.specs.Published.{shifted, product, Roots, IsGenerator}
+use Rattle.bch.specs.Published.{shifted, product, IsGenerator}
 use Rattle.bch.specs.Steps.{coefficient}
 use Rattle.bch.proofs.Cells.{bitK, bit_k_square, bit_k_xor, bit_k_cond, bit_k_once, rowValue, powerSum-value, rootAt, generated-number}
 use Rattle.bch.proofs.CodeRows.{is_fine, bit_k_coefficient, from_code}

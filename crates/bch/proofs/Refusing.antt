@@ -1,5 +1,5 @@
 -- The answers of the calls that take two buffers, put together from what the code has tested and done.
-use Rattle.std.proofs.Common.{◌≡◌, ℕ, ◌+◌, ◌-◌, ◌*◌, ◌/◌, ◌<◌, ◌≤◌, Bool, true, false, cond, ltb, ◌⊎◌, List, length, drop, is_ok, Ok, Err, Result, sym, refl, ap, ◌∙◌, subst, ap₂, inl, inr, arith}
+use Rattle.std.proofs.Common.{◌≡◌, ℕ, ◌+◌, ◌-◌, ◌/◌, true, false, cond, ltb, List, length, drop, is_ok, Ok, Err, Result, sym, refl, ap, ◌∙◌, subst, ap₂, inl, inr, arith}
 use Rattle.std.proofs.lemmas.Bool.{lt-ltb, le-ltb, false≢true}
 use Rattle.refusal.specs.Order.{Unless, Never}
 use Rattle.refusal.specs.declared.Refusal.{Refusal}
@@ -10,7 +10,6 @@ use Rattle.galois.specs.Lists.{tabulate}
 use Rattle.galois.specs.Model.{FieldModel, FieldLaws, units}
 use Rattle.galois.specs.Rows.{Few, check_cells, data_cells}
 use Rattle.galois.proofs.Tabulated.{tabulate-cong, drop-tabulate}
-use Rattle.bch.specs.Buffers.{shown}
 use Rattle.bch.specs.Calls.{Encoded, Extracted}
 use Rattle.bch.specs.Steps.{register, laid}
 use Rattle.bch.proofs.CodeRows.{Packs, all_cells}

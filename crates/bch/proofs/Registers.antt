@@ -1,12 +1,11 @@
 -- The shift register by its values at the roots of the generator.
-use Rattle.std.proofs.Common.{◌≡◌, ℕ, zero, suc, ◌+◌, ◌-◌, ◌*◌, ◌/◌, ◌%◌, ◌^◌, ◌<◌, ◌≤◌, Bool, true, false, cond, eqb, [], ◌∷◌, sym, refl, ap, ◌∙◌, ap₂, arith}
-use lib.Bits.{bit_xor}
+use Rattle.std.proofs.Common.{◌≡◌, ℕ, zero, suc, ◌+◌, ◌-◌, ◌*◌, ◌/◌, ◌%◌, ◌^◌, ◌<◌, Bool, true, false, cond, eqb, [], ◌∷◌, sym, ap, ◌∙◌, ap₂, arith}
 use Rattle.std.proofs.lemmas.Nat.{field_of, mod-pow-add, shr-shr}
 use Rattle.bits.specs.Bits.{xor, bit_of}
 use Rattle.bits.proofs.Turning.{bit_of-xor, bit_of-zero}
 use Rattle.galois.specs.Model.{FieldModel, FieldLaws}
 use Rattle.galois.specs.Polynomials.{value, before}
-use Rattle.galois.specs.Ring.{Ops, Ring2, pow}
+use Rattle.galois.specs.Ring.{pow}
 use Rattle.galois.proofs.Solve.{var, O, ◌⊕◌, ◌⊗◌, solve, mul_zero, zero_mul, one_mul}
 use Rattle.galois.proofs.Polynomials.{value-cong, value_none, value-add, value-scale, value-first}
 use Rattle.galois.proofs.Lift.{Element, ops, ring2}

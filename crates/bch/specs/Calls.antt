@@ -1,11 +1,11 @@
 -- What the calls of this crate answer and leave.
-use Rattle.std.specs.Prelude.{◌≡◌, ℕ, suc, ◌^◌, ◌<◌, List, Ok, Err, Result}
+use Rattle.std.specs.Prelude.{◌≡◌, ℕ, List, Ok, Err, Result}
 use Rattle.refusal.specs.Order.{Unless, Never}
 use Rattle.refusal.specs.declared.Refusal.{Refusal}
 use Rattle.refusal.specs.declared.Refusal.TheVariants.{Figures, Length, UnusedBit}
 use Rattle.bits.specs.Bits.{bit_of, Sized, Unused, Buffer}
 use Rattle.galois.specs.Model.{FieldModel, units}
-use Rattle.galois.specs.Rows.{Few, data_cells, check_cells, data_of, Systematic}
+use Rattle.galois.specs.Rows.{Few, data_cells, data_of, Systematic}
 use Rattle.bch.specs.Buffers.{shown}
 use Rattle.bch.specs.Published.{IsGenerator, ByDivision}
 

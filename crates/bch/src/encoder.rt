@@ -47,8 +47,8 @@ pub fn extract<F: Field>(f: &F, t: u8, row: &[u8], data: &mut [u8]) -> Result<()
 
 /// The shift register of r bits after the k bits of the data, the highest first.
 fn remainder(g: u32, r: u8, data: &[u8], k: u8) -> u32
-    requires le_r { (1 ≤ r) × (r ≤ 24) }
-    requires k_bound { k ≤ 8 * length «data».now }
+    requires checks { (1 ≤ r) × (r ≤ 24) }
+    requires given { k ≤ 8 * length «data».now }
     ensures { result ≡ register g r (bit_at 8 «data».now) 0 k }
 {
     let mask = (1u32 << r) - 1;
@@ -68,9 +68,9 @@ fn remainder(g: u32, r: u8, data: &[u8], k: u8) -> u32
 
 /// Lays the r check cells and then the k data cells into a row buffer that has room for them.
 fn lay(check: u32, r: u8, data: &[u8], k: u8, row: &mut [u8]) -> Result<(), Refusal>
-    requires r_bound { r ≤ 24 }
-    requires k_bound { k ≤ 8 * length «data».now }
-    requires k_bound_2 { r + k ≤ 8 * length row.old }
+    requires checks { r ≤ 24 }
+    requires given { k ≤ 8 * length «data».now }
+    requires room { r + k ≤ 8 * length row.old }
     ensures done { is_ok result ≡ true }
     ensures cells { (j : ℕ) → bit_at 8 row.new j ≡ laid check r «data».now k j }
 {

@@ -57,8 +57,8 @@ fn coefficients<F: Field>(f: &F, t: u8) -> [u8; 25]
 
 /// The polynomial g times x + a.
 fn times_factor<F: Field>(f: &F, a: u8, g: [u8; 25]) -> [u8; 25]
-    requires by_index { (i : ℕ) → i < 25 → slice_index g i < size (F.Field.model f.now) }
-    requires a_bound { a < size (F.Field.model f.now) }
+    requires elements { (i : ℕ) → i < 25 → slice_index g i < size (F.Field.model f.now) }
+    requires element { a < size (F.Field.model f.now) }
     ensures { (i : ℕ) → i < 25 → slice_index result i ≡ factor (numbers (F.Field.model f.now)) a (λ j. slice_index g j) i }
 {
     let mut product = [0u8; 25];
@@ -72,8 +72,8 @@ fn times_factor<F: Field>(f: &F, a: u8, g: [u8; 25]) -> [u8; 25]
 
 /// The number whose bits are the first `count` coefficients, each 0 or 1.
 fn packed(g: [u8; 25], count: usize) -> u32
-    requires count_bound { count ≤ 25 }
-    requires by_index { (i : ℕ) → i < 25 → slice_index g i < 2 }
+    requires room { count ≤ 25 }
+    requires bits { (i : ℕ) → i < 25 → slice_index g i < 2 }
     ensures below { result < 2 ^ count }
     ensures bits { (i : ℕ) → i < count → bit_of result i ≡ (slice_index g i == 1) }
 {

@@ -1,5 +1,5 @@
 -- Determinants, locators and power sums as they are computed: each step by the sum or the product of what two numbers are read as.
-use Rattle.std.proofs.Common.{◌≡◌, ℕ, zero, suc, ◌+◌, ◌*◌, ◌<◌, Bool, ◌≢◌, ◌⊎◌, [], ◌∷◌, sym, refl, ap, ◌∙◌, subst, ap₂, inl, inr, mod-eq_of_lt, arith}
+use Rattle.std.proofs.Common.{◌≡◌, ℕ, zero, suc, ◌*◌, ◌<◌, Bool, ◌≢◌, ◌⊎◌, [], ◌∷◌, sym, refl, ap, ◌∙◌, ap₂, inl, inr, mod-eq_of_lt, arith}
 use Rattle.galois.specs.Model.{FieldModel, FieldLaws, IsInverse, size, units, power, elem, sum_of, product-of}
 use Rattle.galois.specs.Sums.{D2, D3}
 use Rattle.galois.specs.Rows.{power_sum, Few}

@@ -1,15 +1,15 @@
 use Rattle.std.proofs.Common.{Err, ap, ◌∙◌, arith}
 use Rattle.std.proofs.lemmas.Result.{err_from_is_err_and}
 use Rattle.bch.proofs.CodeRows.{is_fine}
-use Rattle.bch.proofs.Refusing.{encode_unsized, encode-refused, encode-done}
+use Rattle.bch.proofs.Refusing.{encode-refused, encode-done}
 use Rattle.bch.proofs.encoder.encode.Goals as goal
 
 pub returns-in_err-check_buffer : goal.returns-in_err-check_buffer
 returns-in_err-check_buffer g c =
-    let p = err_from_is_err_and c.from-residual-in_err-check_buffer.result c.from-residual-in_err-check_buffer.ensures.1 in
+    let p = err_from_is_err_and c.from_residual-in_err-check_buffer.result c.from_residual-in_err-check_buffer.ensures.1 in
     encode-refused (g.F.Field.model c.args.f.now) (g.F.Field.lawful c.args.f.now) c.args.t c.in_ok-check_strength.ensures
     c.row_cells-n.result c.check_cells-r.result c.row_cells-n.ensures c.check_cells-r.ensures
-    c.args.«data».now c.args.row.now c.from-residual-in_err-check_buffer.result c.in_err-check_buffer.field-0.0 (p.1 ∙ ap Err p.2)
+    c.args.«data».now c.args.row.now c.from_residual-in_err-check_buffer.result c.in_err-check_buffer.field-0.0 (p.1 ∙ ap Err p.2)
     c.if-row-n.false c.in_err-check_buffer.ensures
 
 pub remainder-check-requires : goal.remainder-check-requires
@@ -20,7 +20,7 @@ remainder-check-requires g c =
     let some = fine.some in
     let short = fine.few in
     let sized = c.in_ok-check_buffer.ensures.sized in
-    ((omega arith, omega arith), omega arith)
+    record { checks = (omega arith, omega arith); given = omega arith }
 
 pub lay-requires : goal.lay-requires
 lay-requires g c =
@@ -32,7 +32,7 @@ lay-requires g c =
     let inside = fine.short in
     let sized = c.in_ok-check_buffer.ensures.sized in
     let room = c.if-row-n.false in
-    (omega arith, omega arith, omega arith)
+    record { checks = omega arith; given = omega arith; room = omega arith }
 
 pub returns : goal.returns
 returns g c =

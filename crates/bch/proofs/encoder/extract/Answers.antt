@@ -13,10 +13,10 @@ returns-then-data-n g c =
 
 pub returns-in_err-check_buffer : goal.returns-in_err-check_buffer
 returns-in_err-check_buffer g c =
-    let p = err_from_is_err_and c.from-residual-in_err-check_buffer.result c.from-residual-in_err-check_buffer.ensures.1 in
+    let p = err_from_is_err_and c.from_residual-in_err-check_buffer.result c.from_residual-in_err-check_buffer.ensures.1 in
     extract-refused (g.F.Field.model c.args.f.now) (g.F.Field.lawful c.args.f.now) c.args.t c.in_ok-check_strength.ensures
     c.row_cells-n.result c.check_cells-r.result c.row_cells-n.ensures c.check_cells-r.ensures
-    c.args.row.now c.args.«data».now c.from-residual-in_err-check_buffer.result c.in_err-check_buffer.field-0.0 (p.1 ∙ ap Err p.2)
+    c.args.row.now c.args.«data».now c.from_residual-in_err-check_buffer.result c.in_err-check_buffer.field-0.0 (p.1 ∙ ap Err p.2)
     c.if-data-n.false c.in_err-check_buffer.ensures
 
 pub loop-j-preserved : goal.loop-j-preserved

@@ -1,4 +1,4 @@
-use Rattle.std.proofs.Common.{◌≡◌, ℕ, ◌+◌, ◌-◌, ◌<◌, ◌≤◌, false, cond, ltb}
+use Rattle.std.proofs.Common.{◌≡◌, ℕ, false, cond, ltb}
 use Rattle.bits.specs.Bits.{bit_of, bit_at}
 use Rattle.bch.specs.Steps.{laid}
 use Rattle.bch.proofs.encoder.lay.Given as goal

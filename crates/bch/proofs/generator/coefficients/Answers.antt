@@ -1,4 +1,4 @@
-use Rattle.std.proofs.Common.{◌≡◌, ℕ, ◌+◌, ◌*◌, ◌%◌, ◌<◌, sym, refl, ap, ◌∙◌, subst, ap₂, arith, rules}
+use Rattle.std.proofs.Common.{◌≡◌, ◌+◌, ◌*◌, ◌%◌, ◌<◌, sym, refl, ap, ◌∙◌, subst, ap₂, rules}
 use Rattle.galois.specs.Model.{size, units, power, product-of}
 use Rattle.galois.proofs.Laws.{power-lt}
 use Rattle.galois.specs.Cosets.{walk}
@@ -18,10 +18,11 @@ loop-d-init g c =
 pub times_factor-g-requires : goal.times_factor-g-requires
 times_factor-g-requires g c =
     let F = g.F.Field.model c.args.f.now in
-    let laws = g.F.Field.lawful c.args.f.now in (
-      λ i h. subst (λ z. z < size F) (sym (c.loop-d.invariant.4 i h)) (coefficient-lt F laws c.loop-d._d i),
-      subst (λ z. z < size F) (sym c.loop-d.invariant.3) (power-lt F laws c.loop-d.here),
-    )
+    let laws = g.F.Field.lawful c.args.f.now in
+    record {
+      elements = λ i h. subst (λ z. z < size F) (sym (c.loop-d.invariant.4 i h)) (coefficient-lt F laws c.loop-d._d i);
+      element = subst (λ z. z < size F) (sym c.loop-d.invariant.3) (power-lt F laws c.loop-d.here);
+    }
 
 pub overflow_mul-here : goal.overflow_mul-here
 overflow_mul-here g c =

@@ -1,4 +1,4 @@
-use Rattle.std.proofs.Common.{◌≡◌, ◌+◌, ◌^◌, ◌<◌, eqb, sym, ap, ◌∙◌, subst, arith}
+use Rattle.std.proofs.Common.{◌+◌, ◌^◌, ◌<◌, eqb, sym, ap, ◌∙◌, subst, arith}
 use Rattle.bch.proofs.CodeRows.{is_fine, coefficient-lt}
 use Rattle.bch.proofs.generator.generator.Goals as goal
 
@@ -8,7 +8,10 @@ packed-requires g c =
     let laws = g.F.Field.lawful c.args.f.now in
     let e = c.check_cells.ensures in
     let h = (is_fine F laws c.args.t c.requires).few in
-    (omega arith, λ i lt. subst (λ z. z < 2) (sym (c.coefficients.ensures i lt)) (coefficient-lt F laws c.args.t c.requires i))
+    record {
+      room = omega arith;
+      bits = λ i lt. subst (λ z. z < 2) (sym (c.coefficients.ensures i lt)) (coefficient-lt F laws c.args.t c.requires i);
+    }
 
 pub returns : goal.returns
 returns g c =

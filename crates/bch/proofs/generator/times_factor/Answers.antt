@@ -1,4 +1,4 @@
-use Rattle.std.proofs.Common.{get_or, sym, refl, ap, ◌∙◌, add-one, arith, length-set, pow_pos}
+use Rattle.std.proofs.Common.{get_or, sym, refl, ap, add-one, arith, length-set, pow_pos}
 use Rattle.galois.specs.Ring.{numbers}
 use Rattle.galois.specs.Polynomials.{before}
 use Rattle.bch.proofs.Factors.{factor-next}
@@ -16,8 +16,8 @@ loop-i-preserved g c =
     let i = l.invariant in (
       simp length-set i.0,
       ap (before (numbers F) (λ j. get_or c.args.g j 0)) (sym (add-one l.i)),
-      c.requires.0 l.i c.loop-i-test.true,
-      factor-next F laws c.args.a c.args.g l.product l.i l.below c.add.result c.mul.result c.loop-i-test.true c.requires.0 c.requires.1
+      c.requires.elements l.i c.loop-i-test.true,
+      factor-next F laws c.args.a c.args.g l.product l.i l.below c.add.result c.mul.result c.loop-i-test.true c.requires.elements c.requires.element
           i.0 i.1 i.2 c.mul.ensures c.add.ensures i.3,
     )
 

@@ -1,4 +1,4 @@
-use Rattle.std.proofs.Common.{◌≡◌, ◌*◌, ◌≤◌, sym, subst, rules}
+use Rattle.std.proofs.Common.{◌*◌, ◌≤◌, sym, subst, rules}
 use Rattle.std.proofs.lemmas.Nat.{mul-le}
 use Rattle.bch.proofs.sizes.check_cells.Goals as goal
 

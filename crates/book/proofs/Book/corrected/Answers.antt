@@ -35,7 +35,7 @@ pub returns-in_err-count : goal.returns-in_err-count
 returns-in_err-count g c =
     let b = meaning g.C.Field g.C.Corrector g.M.Memory c.args.self.now in
     let row = gathered_row b c.args.row c.row_cells-n.result c.gather.new.row c.row_cells-n.ensures c.in-Ok.ensures.2 c.in-Ok.ensures.3 in
-    let p = err_from_is_err_and c.from-residual.result c.from-residual.ensures.1 in
+    let p = err_from_is_err_and c.from_residual.result c.from_residual.ensures.1 in
     subst (λ (a : Result ℕ Refusal). Found b c.args.row c.correct.new.row a) (sym (p.1 ∙ ap Err p.2))
     (none_near b (g.C.Field.lawful c.args.self.now.corrector) c.args.row c.gather.new.row row.0 row.1
     c.correct.new.row c.in_err-count.field-0.0 c.in_err-count.ensures)

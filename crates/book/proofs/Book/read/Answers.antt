@@ -33,7 +33,7 @@ returns-in_err-differing g c =
     let laws = g.C.Field.lawful c.args.self.now.corrector in
     let few = g.C.Corrector.few c.args.self.now.corrector in
     let l : c.args.row < rows_of b = omega (arith, c.rows.ensures, c.if-row-rows.false) in
-    let p = err_from_is_err_and c.from-residual.result c.from-residual.ensures.1 in
+    let p = err_from_is_err_and c.from_residual.result c.from_residual.ensures.1 in
     subst (λ (a : Result ℕ Refusal). ReadCall b c.args.row c.args.bytes.now c.args.bytes.now a) (sym (p.1 ∙ ap Err p.2))
     (read_call b laws few c.args.row c.args.bytes.now c.args.bytes.now (Err c.in_err-differing.field-0.0)
     (not_found b c.args.row c.args.bytes.now l c.data_cells.result c.data_cells.ensures c.if-bytes-data_cells.false

@@ -27,7 +27,7 @@ returns-in_err-encode g c =
     let laws = g.C.Field.lawful c.args.self.now.corrector in
     let few = g.C.Corrector.few c.args.self.now.corrector in
     let l : c.args.row < rows_of b = omega (arith, c.rows.ensures, c.if-row-rows.false) in
-    let p = err_from_is_err_and c.from-residual.result c.from-residual.ensures.1 in
+    let p = err_from_is_err_and c.from_residual.result c.from_residual.ensures.1 in
     record {
       kept = kept_self c.args.self.now;
       call = subst (λ (a : Result (Unit {0}) Refusal). WriteCall b b c.args.row c.args.bytes.now a) (sym (p.1 ∙ ap Err p.2))

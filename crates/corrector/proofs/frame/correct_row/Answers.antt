@@ -6,9 +6,9 @@ use Rattle.corrector.proofs.frame.correct_row.Goals as goal
 
 pub returns-in_err-check_buffer : goal.returns-in_err-check_buffer
 returns-in_err-check_buffer g c =
-    let p = err_from_is_err_and c.from-residual.result c.from-residual.ensures.1 in
+    let p = err_from_is_err_and c.from_residual.result c.from_residual.ensures.1 in
     not_admitted (g.S.Field.model c.args.s.now) (g.S.Field.lawful c.args.s.now) (g.S.Search.strength c.args.s.now) c.args.row.now
-    c.row_cells.result c.from-residual.result c.in_err-check_buffer.field-0.0 c.row_cells.ensures (p.1 ∙ ap Err p.2)
+    c.row_cells.result c.from_residual.result c.in_err-check_buffer.field-0.0 c.row_cells.ensures (p.1 ∙ ap Err p.2)
     c.in_err-check_buffer.ensures
 
 pub returns-then-is_clean : goal.returns-then-is_clean

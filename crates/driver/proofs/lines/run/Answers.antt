@@ -34,7 +34,7 @@ returns-in_err-push g c =
     let way = goes_on b all m m' (lines_of (remaining c.loop-line.line-iterator)) left' c.in-Some.line.now told (told ++ (c.run_line-answer.result ∷ []))
     c.run_line-answer.result c.loop-line.invariant.1 c.in-Some.ensures.steps
     (same_figures g.C.Field g.C.Corrector g.M.Memory c.loop-line.book c.run_line-answer.new.book k) c.run_line-answer.ensures.call refl in
-    let p = err_from_is_err_and c.from-residual.result c.from-residual.ensures.1 in
+    let p = err_from_is_err_and c.from_residual.result c.from_residual.ensures.1 in
     record {
       kept = kept_on c.args.book.now c.loop-line.book c.run_line-answer.new.book c.loop-line.invariant.0 k;
       answers = rw p.1 (stops b all m' left' (told ++ (c.run_line-answer.result ∷ [])) way);

@@ -12,7 +12,7 @@ returns-in_err-read g c =
     let self = c.args.self.now in
     let b = meaning g.C.Field g.C.Corrector g.M.Memory self.book in
     let at = c.in_ok-row.ensures in
-    let p = err_from_is_err_and c.from-residual-in_err-read.result c.from-residual-in_err-read.ensures.1 in
+    let p = err_from_is_err_and c.from_residual-in_err-read.result c.from_residual-in_err-read.ensures.1 in
     subst (λ (a : Result ℤ Refusal). EntryGot b self.entries c.args.i a) (sym (p.1 ∙ ap Err p.2))
     (entry_not_got b self.entries c.args.i c.in_ok-row.row c.in_ok-row.index at.0 at.1 _ c.read.new.bytes (search rules)
     c.in_err-read.field-0.0 c.in_err-read.ensures)

@@ -13,7 +13,7 @@ returns-in_err-entry g c =
     let self = c.args.self.now in
     let b = meaning g.C.Field g.C.Corrector g.M.Memory self.book in
     let here = c.locate-position.ensures in
-    let p = err_from_is_err_and c.from-residual.result c.from-residual.ensures.1 in
+    let p = err_from_is_err_and c.from_residual.result c.from_residual.ensures.1 in
     record {
       call = subst (λ (a : Result ℤ Refusal). LookedUp b (entries_of b self.entries) c.args.angle a) (sym (p.1 ∙ ap Err p.2))
           (no_entry b self.entries c.args.angle c.entries-entries.result c.locate-position.result.index c.entries-entries.ensures.0 here.index here.inside
@@ -27,7 +27,7 @@ returns-in_err-next g c =
     let self = c.args.self.now in
     let b = meaning g.C.Field g.C.Corrector g.M.Memory self.book in
     let here = c.locate-position.ensures in
-    let p = err_from_is_err_and c.from-residual-in_err-next.result c.from-residual-in_err-next.ensures.1 in
+    let p = err_from_is_err_and c.from_residual-in_err-next.result c.from_residual-in_err-next.ensures.1 in
     record {
       call = subst (λ (a : Result ℤ Refusal). LookedUp b (entries_of b self.entries) c.args.angle a) (sym (p.1 ∙ ap Err p.2))
           (no_next b self.entries c.args.angle c.entries-entries.result c.locate-position.result.index c.entries-entries.ensures.0 here.index here.inside

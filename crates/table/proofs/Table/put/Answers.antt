@@ -15,7 +15,7 @@ returns-in_err-entry g c =
     let self = c.args.self.now in
     let b = meaning g.C.Field g.C.Corrector g.M.Memory self.book in
     let at = c.in_ok-row.ensures in
-    let p = err_from_is_err_and c.from-residual-in_err-entry.result c.from-residual-in_err-entry.ensures.1 in
+    let p = err_from_is_err_and c.from_residual-in_err-entry.result c.from_residual-in_err-entry.ensures.1 in
     record {
       kept = (kept_self self.book, refl);
       history = λ h led. led;
@@ -29,7 +29,7 @@ returns-in_err-read g c =
     let self = c.args.self.now in
     let b = meaning g.C.Field g.C.Corrector g.M.Memory self.book in
     let at = c.in_ok-row.ensures in
-    let p = err_from_is_err_and c.from-residual-in_err-read.result c.from-residual-in_err-read.ensures.1 in
+    let p = err_from_is_err_and c.from_residual-in_err-read.result c.from_residual-in_err-read.ensures.1 in
     record {
       kept = (kept_self self.book, refl);
       history = λ h led. led;

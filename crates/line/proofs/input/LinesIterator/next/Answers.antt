@@ -10,7 +10,7 @@ use Rattle.std.proofs.iter.Next.{firm}
 pub returns-in_err-end : goal.returns-in_err-end
 returns-in_err-end c =
     let n = c.in_err-end.ensures in
-    rw c.from-residual.ensures (record { steps = (ap lines_of (nil_from_length _ n), refl); goes = firm (tt) (λ h. search rules) })
+    rw c.from_residual.ensures (record { steps = (ap lines_of (nil_from_length _ n), refl); goes = firm (tt) (λ h. search rules) })
 
 pub returns : goal.returns
 returns c =
