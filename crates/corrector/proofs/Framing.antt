@@ -1,5 +1,5 @@
 -- The buffer of a row, and the answers of the frame put together from what it has tested and found.
-use Rattle.std.proofs.Common.{◌≡◌, ℕ, zero, suc, ◌+◌, ◌-◌, ◌*◌, ◌/◌, ◌^◌, ◌<◌, ◌≤◌, Bool, true, false, ◌&&◌, ◌||◌, eqb, ltb, ◌⊎◌, List, length, Some, None, Ok, Err, Result, sym, refl, ap, ◌∙◌, subst, inl, inr, arith}
+use Rattle.std.proofs.Common.{◌≡◌, ℕ, zero, suc, ◌+◌, ◌-◌, ◌*◌, ◌/◌, ◌^◌, ◌<◌, Bool, true, false, List, length, Some, None, Ok, Err, Result, sym, refl, ap, ◌∙◌, subst, inl, inr, arith}
 use Rattle.std.proofs.lemmas.Bool.{and_parts, and_from, both_ways, eqb-true, eq-eqb}
 use Rattle.refusal.specs.Order.{Unless, Never}
 use Rattle.refusal.specs.declared.Refusal.{Refusal}
@@ -10,12 +10,11 @@ use Rattle.field.specs.declared.syndromes.Syndromes.{Syndromes}
 use Rattle.field.specs.Syndromes.{syndromes_of}
 use Rattle.field.proofs.Summed.{sums_clear}
 use Rattle.galois.specs.Model.{FieldModel, FieldLaws, units}
-use Rattle.galois.specs.Rows.{Few, Near}
+use Rattle.galois.specs.Rows.{Few}
 use Rattle.galois.proofs.HouseRing.{each}
 use Rattle.galois.proofs.Least.{Code}
 use Rattle.decoding.proofs.Zeros.{Zeros, code_zeros, zeros_code}
 use Rattle.decoding.proofs.Tracks.{found_at_once, found-near}
-use Rattle.bch.specs.Buffers.{shown}
 use Rattle.corrector.specs.Corrected.{Corrected}
 use Rattle.corrector.specs.Searched.{clean, Searched, Searches}
 

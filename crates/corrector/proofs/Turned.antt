@@ -1,10 +1,8 @@
 -- The syndromes of a row buffer once one of its positions is turned.
-use Rattle.std.proofs.Common.{◌≡◌, ℕ, ◌+◌, ◌*◌, ◌<◌, Bool, List, length, sym, refl, ap, ◌∙◌, arith}
-use Rattle.bits.specs.Bits.{bit_at, turned_at}
-use Rattle.galois.specs.Model.{FieldModel, FieldLaws, size, units, power, product-of}
+use Rattle.std.proofs.Common.{◌≡◌, ℕ, ◌*◌, ◌<◌, Bool, refl, ap, ◌∙◌, arith}
+use Rattle.galois.specs.Model.{FieldModel, FieldLaws, units, power, product-of}
 use Rattle.galois.proofs.Distances.{Turns}
 use Rattle.galois.proofs.Powers.{cube_is, fifth_is}
-use Rattle.galois.proofs.PowerSums.{powerSum-lt}
 use Rattle.field.specs.declared.syndromes.Syndromes.{Syndromes}
 use Rattle.field.specs.Syndromes.{syndromes_of, with_turn}
 use Rattle.decoding.proofs.Computed.{turned-sum}

@@ -1,25 +1,23 @@
 -- What corrects rows for one field and one t leaves no choice.
-use Rattle.std.proofs.Common.{◌≡◌, ℕ, zero, suc, ◌+◌, ◌*◌, ◌/◌, ◌%◌, ◌^◌, ◌<◌, ◌≤◌, Bool, true, false, eqb, ◌⊎◌, List, length, get_or, Ok, Err, Result, sym, refl, ap, ◌∙◌, subst, inl, inr, ⊎_elim, arith}
+use Rattle.std.proofs.Common.{◌≡◌, ℕ, zero, suc, ◌+◌, ◌*◌, ◌/◌, ◌%◌, ◌^◌, ◌<◌, ◌≤◌, false, eqb, List, length, get_or, Ok, Err, Result, sym, refl, ap, ◌∙◌, subst, inl, inr, ⊎_elim, arith}
 use Rattle.std.proofs.lemmas.Nat.{pow-add, shr-shr}
 use Rattle.std.proofs.lemmas.List.{get_or_past}
 use Rattle.std.proofs.lemmas.Bool.{cases_lt, false≢true, true≢false}
 use Rattle.refusal.specs.declared.Refusal.{Refusal}
 use Rattle.refusal.specs.Order.{Unless, Never}
 use Rattle.refusal.specs.declared.Refusal.TheVariants.{Length, UnusedBit, NoCodeRow}
-use Rattle.bits.specs.Bits.{bit_of, bit_at, Sized, Buffer}
+use Rattle.bits.specs.Bits.{bit_of, bit_at, Buffer}
 use Rattle.bits.proofs.Turning.{bit_of-zero}
 use Rattle.galois.specs.Model.{FieldModel, FieldLaws, units}
-use Rattle.galois.specs.Lists.{tabulate}
-use Rattle.galois.specs.Rows.{cell_of, Near, distance}
+use Rattle.galois.specs.Rows.{cell_of, distance}
 use Rattle.galois.proofs.Least.{rows_apart}
 use Rattle.galois.proofs.Tabulated.{same_list}
 use Rattle.decoding.proofs.Within.{cell-tabulate}
 use Rattle.bch.specs.Buffers.{shown}
 use Rattle.bch.proofs.Counts.{units_lt}
 use Rattle.corrector.specs.Corrected.{Corrected}
-use Rattle.corrector.specs.Agreed.{Bytes, OneCorrection, Compared}
-use Rattle.corrector.specs.declared.comparison.Agreement.{Agreement}
-use Rattle.corrector.specs.declared.comparison.Agreement.TheVariants.{Alike, Unlike}
+use Rattle.corrector.specs.Agreed.{OneCorrection, Compared}
+use Rattle.corrector.specs.declared.comparison.Agreement.TheVariants.{Unlike}
 
 -- ---- bytes by their bits
 two : (a b : ℕ) → a < 2 → b < 2 → eqb a 1 ≡ eqb b 1 → a ≡ b

@@ -1,4 +1,4 @@
-use Rattle.std.proofs.Common.{◌≡◌, length, Err, refl, ap}
+use Rattle.std.proofs.Common.{length, Err, refl, ap}
 use Rattle.bits.specs.Bits.{bit_at}
 use Rattle.std.proofs.lemmas.Bool.{false≢true}
 use Rattle.refusal.specs.declared.Refusal.TheVariants.{Length}

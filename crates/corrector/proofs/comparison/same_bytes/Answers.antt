@@ -1,4 +1,4 @@
-use Rattle.std.proofs.Common.{◌≡◌, ℕ, ◌<◌, length, get_or, refl, arith}
+use Rattle.std.proofs.Common.{◌<◌, get_or, refl, arith}
 use Rattle.std.proofs.lemmas.Bool.{false≢true}
 use Rattle.galois.proofs.Tabulated.{same_list}
 use Rattle.corrector.proofs.Unique.{same_byte}
