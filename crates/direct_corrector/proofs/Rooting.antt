@@ -1,9 +1,9 @@
 -- What the search by roots knows before a position, and how a turn carries it to the next.
-use Rattle.std.proofs.Common.{◌≡◌, ℕ, ◌+◌, ◌*◌, ◌<◌, ◌≤◌, Bool, true, false, ◌≢◌, List, length, Some, None, sym, refl, ap, ◌∙◌, subst, ap₂, arith}
+use Rattle.std.proofs.Common.{◌≡◌, ℕ, ◌+◌, ◌*◌, ◌<◌, ◌≤◌, true, false, ◌≢◌, List, length, Some, None, sym, refl, ap, ◌∙◌, subst, ap₂, arith}
 use Rattle.bits.specs.Bits.{bit_at, turned_at}
 use Rattle.galois.specs.Model.{FieldModel, FieldLaws, size, units, power}
 use Rattle.galois.specs.Ring.{numbers}
-use Rattle.galois.specs.Rows.{power_sum, Few}
+use Rattle.galois.specs.Rows.{Few}
 use Rattle.galois.proofs.Laws.{power-lt}
 use Rattle.galois.proofs.PowerSums.{powerSum-lt}
 use Rattle.field.specs.declared.syndromes.Syndromes.{Syndromes}

@@ -1,7 +1,7 @@
 -- The class by the list of cases is the class of the syndromes.
-use Rattle.std.proofs.Common.{◌≡◌, ℕ, zero, suc, ◌<◌, ◌≤◌, Bool, true, false, cond, ◌&&◌, ◌||◌, eqb, ltb, ◌≢◌, [], sym, refl, ap, ◌∙◌, ap₂, arith}
+use Rattle.std.proofs.Common.{◌≡◌, ℕ, zero, suc, ◌≤◌, Bool, true, false, cond, ◌&&◌, eqb, ◌≢◌, [], refl, ap, ◌∙◌, ap₂, arith}
 use Rattle.std.proofs.lemmas.Bool.{false≢true, eq-eqb}
-use Rattle.galois.specs.Model.{FieldModel, FieldLaws, size}
+use Rattle.galois.specs.Model.{FieldModel, FieldLaws}
 use Rattle.galois.specs.Ring.{numbers}
 use Rattle.galois.specs.Rows.{Few}
 use Rattle.galois.specs.Sums.{D2, D3}

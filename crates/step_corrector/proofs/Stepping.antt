@@ -1,8 +1,8 @@
 -- What the search step by step knows before a position, and how a trial carries it to the next.
-use Rattle.std.proofs.Common.{◌≡◌, ℕ, suc, ◌+◌, ◌*◌, ◌<◌, ◌≤◌, Bool, true, false, ◌≢◌, List, length, Some, None, sym, refl, ap, ◌∙◌, subst, ap₂, arith}
+use Rattle.std.proofs.Common.{◌≡◌, ℕ, ◌+◌, ◌*◌, ◌<◌, ◌≤◌, Bool, List, length, Some, None, sym, ap, ◌∙◌, subst, ap₂, arith}
 use Rattle.std.proofs.lemmas.Bool.{both_ways}
 use Rattle.bits.specs.Bits.{bit_at, turned_at}
-use Rattle.galois.specs.Model.{FieldModel, FieldLaws, size, units, power}
+use Rattle.galois.specs.Model.{FieldModel, FieldLaws, units, power}
 use Rattle.galois.specs.Rows.{Few}
 use Rattle.galois.proofs.PowerSums.{powerSum-lt}
 use Rattle.field.specs.declared.syndromes.Syndromes.{Syndromes}

@@ -1,4 +1,4 @@
-use Rattle.std.proofs.Common.{◌≡◌, ◌⊎◌, sym, subst, inl, inr, ⊎_elim, arith, pow_pos}
+use Rattle.std.proofs.Common.{◌≡◌, sym, subst, inl, inr, ⊎_elim, arith, pow_pos}
 use Rattle.galois.specs.Ring.{numbers}
 use Rattle.decoding.specs.Locators.{Locates}
 use Rattle.decoding.proofs.Computed.{locates_one, locates_two, locates-three}

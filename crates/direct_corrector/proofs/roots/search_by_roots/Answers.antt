@@ -1,8 +1,8 @@
-use Rattle.std.proofs.Common.{◌≡◌, ℕ, ◌+◌, ◌*◌, ◌<◌, ◌≤◌, length, sym, refl, ap, ◌∙◌, arith}
+use Rattle.std.proofs.Common.{◌*◌, ◌<◌, length, sym, refl, ap, ◌∙◌, arith}
 use Rattle.galois.specs.Model.{units, power}
 use Rattle.galois.proofs.Powers.{next_power}
 use Rattle.field.specs.Syndromes.{syndromes_of}
-use Rattle.direct_corrector.proofs.Rooting.{Known, known_start, known_clean, known_turn, known_leave, known_found, known_none, known_many}
+use Rattle.direct_corrector.proofs.Rooting.{known_start, known_clean, known_turn, known_leave, known_found, known_none, known_many}
 use Rattle.direct_corrector.proofs.roots.search_by_roots.Goals as goal
 use Rattle.direct_corrector.proofs.roots.search_by_roots.Goals.{then-value_at-eq0, else-value_at-eq0, else-count-t-via-then-count-t+else-is_clean-2, else-count-t-via-else-count-t}
 

@@ -1,4 +1,4 @@
-use Rattle.std.proofs.Common.{◌≡◌, ℕ, ◌≤◌}
+use Rattle.std.proofs.Common.{◌≡◌, ◌≤◌}
 use Rattle.bits.specs.Bits.{bit_at}
 use Rattle.galois.specs.Model.{units, power}
 use Rattle.field.specs.Syndromes.{syndromes_of}

@@ -1,9 +1,8 @@
-use Rattle.std.proofs.Common.{◌≡◌, ℕ, ◌+◌, ◌*◌, ◌<◌, ◌≤◌, length, sym, refl, ap, ◌∙◌, arith, rules}
-use Rattle.bits.specs.Bits.{bit_at}
+use Rattle.std.proofs.Common.{◌*◌, ◌<◌, length, refl, ap, ◌∙◌, arith}
 use Rattle.galois.specs.Model.{units, power}
 use Rattle.galois.proofs.Powers.{next_power}
 use Rattle.field.specs.Syndromes.{syndromes_of}
-use Rattle.step_corrector.proofs.Stepping.{Known, known_start, known_turn, known_leave, known_found, known_none, known_beyond}
+use Rattle.step_corrector.proofs.Stepping.{known_start, known_turn, known_leave, known_found, known_none, known_beyond}
 use Rattle.step_corrector.proofs.trials.search_by_steps.Goals as goal
 use Rattle.step_corrector.proofs.trials.search_by_steps.Goals.{in-Some, in_default-try_position}
 
