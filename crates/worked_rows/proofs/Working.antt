@@ -1,10 +1,10 @@
 -- The worked rows: what computes is computed, and what speaks of every row follows from the laws of the code.
-use Rattle.std.proofs.Common.{◌≡◌, ℕ, zero, suc, ◌+◌, ◌*◌, ◌<◌, ◌≤◌, Bool, false, List, [], ◌∷◌, length, get_or, Ok, Err, sym, refl, ap, ◌∙◌, subst, inl, inr, arith, lit≤, get_or-drop}
+use Rattle.std.proofs.Common.{◌≡◌, ℕ, ◌<◌, ◌≤◌, Bool, false, List, [], ◌∷◌, length, get_or, Ok, Err, sym, refl, ap, ◌∙◌, subst, inl, inr, arith, lit≤, get_or-drop}
 use Rattle.refusal.specs.declared.Refusal.TheVariants.{NoCodeRow}
 use Rattle.bits.specs.Bits.{bit_at, Buffer}
-use Rattle.galois.specs.House.{house, shift, product, Fit}
+use Rattle.galois.specs.House.{shift, product}
 use Rattle.galois.specs.Lists.{All, tabulate}
-use Rattle.galois.specs.Model.{FieldModel, FieldLaws, units, power}
+use Rattle.galois.specs.Model.{FieldLaws, power}
 use Rattle.galois.specs.Rows.{power_sum, syndrome, cell_of, Few, CodeRow, data_of, distance, Near, Systematic}
 use Rattle.galois.specs.Ring.{numbers}
 use Rattle.galois.specs.Sums.{D2, D3}
