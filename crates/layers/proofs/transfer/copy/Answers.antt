@@ -1,7 +1,7 @@
 use Rattle.std.proofs.Common.{◌≡◌, arith}
 use Rattle.layers.proofs.Filling.{filled_none, filled_more}
 use Rattle.layers.proofs.transfer.copy.Goals as goal
-use Rattle.layers.proofs.transfer.copy.Goals.{in-Ok, in-default}
+use Rattle.layers.proofs.transfer.copy.Goals.{in-Ok, in_default}
 
 pub loop-k-init : goal.loop-k-init
 loop-k-init g c = filled_none (g.B.Memory.means c.args.b.now) (g.A.Memory.means c.args.a.now).bit
@@ -12,7 +12,7 @@ loop-k-preserved g c =
     elim c.match-get.branch [
       | in-Ok w ↦ rw w.b-is (filled_more (means c.args.b.now) (means c.loop-k.b) (means w.put.new.self) (g.A.Memory.means c.args.a.now).bit
           c.loop-k.k w.in-Ok.v w.put.result (omega arith) w.in-Ok.ensures.1 c.loop-k.invariant w.put.ensures)
-      | in-default w ↦ absurd (omega (arith, w.in-default.ensures.0))
+      | in_default w ↦ absurd (omega (arith, w.in_default.ensures.0))
     ]
 
 pub returns : goal.returns
