@@ -1,9 +1,9 @@
 -- The tests of the figures in plain words, and what they bound.
-use Rattle.std.proofs.Common.{◌≡◌, ℕ, zero, suc, ◌+◌, ◌*◌, ◌/◌, ◌%◌, ◌<◌, ◌≤◌, Bool, true, false, cond, ◌&&◌, eqb, leb, sym, refl, ap, ◌∙◌, mul-le-mul_right, mul-le-mul_left, div-le_self, div-mul-le_self, arith}
+use Rattle.std.proofs.Common.{◌≡◌, ℕ, zero, suc, ◌+◌, ◌*◌, ◌/◌, ◌%◌, ◌<◌, ◌≤◌, true, ap, ◌∙◌, mul-le-mul_right, mul-le-mul_left, div-le_self, div-mul-le_self, arith}
 use Rattle.std.proofs.lemmas.Nat.{div-add-mod', mod_below, mod-mul-add, mul-le}
 use Rattle.std.proofs.lemmas.Bool.Decides.{nat_tests}
-use Rattle.layers.specs.Layers.{WindowFits, window_test, window_size, InterleaverFits, interleaver_test, interleaver_size}
-use Rattle.layers.specs.Crossing.{figures, Figures, window_figures}
+use Rattle.layers.specs.Layers.{WindowFits, window_test, InterleaverFits, interleaver_test}
+use Rattle.layers.specs.Crossing.{figures}
 
 pub window_test_lem : (c l n : ℕ) → WindowFits c l n → window_test c l n ≡ true
 window_test_lem c l n f = grind (arith, nat_tests)

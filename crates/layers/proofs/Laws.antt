@@ -1,10 +1,9 @@
 -- The laws of the window and of the interleaver.
-use Rattle.std.proofs.Common.{◌≡◌, ℕ, zero, suc, ◌+◌, ◌*◌, ◌/◌, ◌%◌, ◌<◌, ◌≤◌, Bool, true, false, cond, ◌&&◌, sym, refl, ap, ◌∙◌, mul_assoc, mul_comm, add-mul, arith}
+use Rattle.std.proofs.Common.{◌≡◌, ℕ, zero, suc, ◌+◌, ◌*◌, ◌/◌, ◌%◌, ◌<◌, sym, refl, ap, ◌∙◌, mul_assoc, mul_comm, add-mul, arith}
 use lib.Arith.{digits_lt, digits_div, digits_mod}
 use Rattle.std.proofs.lemmas.Bool.{cond-true, cond_both}
 use Rattle.memory.specs.Mem.{Layout, Mem}
 use Rattle.memory.specs.Lines.{InLine, Interleaved}
-use Rattle.memory.specs.Layered.{layered, Picks}
 use Rattle.layers.specs.Layers.{window_test, windowed, WindowLaws, InterleaverFits, interleaver_test, interleaved, crossed, InterleaverLaws}
 use Rattle.layers.specs.Crossing.{window_picks, window_figures}
 use Rattle.layers.proofs.Figures.{window_test_lem, interleaver_fits, interleaver_test_lem}

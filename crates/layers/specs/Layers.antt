@@ -1,6 +1,6 @@
 -- What each layer makes of the memory below.
 use Rattle.std.specs.Prelude.{◌≡◌, ℕ, ◌+◌, ◌*◌, ◌/◌, ◌%◌, ◌<◌, ◌≤◌, Bool, cond, not, ◌&&◌, ◌==◌, nat_le}
-use Rattle.memory.specs.Mem.{Layout, Mem}
+use Rattle.memory.specs.Mem.{Mem}
 use Rattle.memory.specs.Layered.{layered}
 use Rattle.memory.specs.Lines.{InLine, Interleaved}
 

@@ -1,5 +1,5 @@
 -- What a write or a turned run of packed cells is to the memory that holds them, for numbers of any width w.
-use Rattle.std.proofs.Common.{◌≡◌, ℕ, ◌+◌, ◌*◌, ◌/◌, ◌<◌, ◌≤◌, min, Bool, List, length, drop, Ok, Err, Result, sym, ap, ◌∙◌, arith, Bor, MutBor}
+use Rattle.std.proofs.Common.{◌≡◌, ℕ, ◌+◌, ◌*◌, ◌/◌, ◌<◌, ◌≤◌, min, Bool, List, length, drop, Ok, Err, Result, sym, ap, ◌∙◌, arith, MutBor}
 use Rattle.refusal.specs.declared.Refusal.{Refusal}
 use Rattle.std.proofs.lemmas.Bool.{ne_eqb, cond-false}
 use Rattle.memory.specs.Mem.{Layout, Mem, Put, Knocked}
@@ -22,7 +22,7 @@ module _ (w lent : ℕ) (xs ys : List ℕ) (whole : w * (most / w) ≡ most) (le
   lent_knocked a c h p = (h, (kept (p.rest (most / w) (omega arith)), λ k lt. p.bits k), λ k lt. p.bits k)
 
 -- A reference b that a slice was lent by has become b'; the owner calls the slice by another name, own.
-module _ (w : ℕ) (b b' : Bor (List ℕ)) (own : ℕ) where
+module _ (w : ℕ) (b b' : MutBor (List ℕ)) (own : ℕ) where
   renamed : (lent_cells w b').layout ≡ (lent_cells w b).layout → (slice w own b'.now).layout ≡ (slice w own b.now).layout
   renamed e = ap (λ (l : Layout). (plain l.cells own l.bottom.past (bit_at w b.now)).layout) e
 

@@ -1,8 +1,8 @@
 -- What the bottoms mean: cells in their order, each at the place of its number.
-use Rattle.std.specs.Prelude.{◌≡◌, ℕ, ◌+◌, ◌*◌, ◌/◌, ◌<◌, ◌≤◌, min, Bool, false, List, [], length, drop, refl}
+use Rattle.std.specs.Prelude.{ℕ, ◌*◌, ◌/◌, ◌≤◌, min, Bool, List, [], length, drop}
 use Rattle.std.specs.Borrow.{MutBor}
 use Rattle.std.proofs.Common.{arith, lit≤}
-use Rattle.memory.specs.Mem.{Bottom, Layout, Mem, Sound}
+use Rattle.memory.specs.Mem.{Mem, Sound}
 use Rattle.bits.specs.Bits.{bit_at}
 
 -- The largest number of cells and of places.

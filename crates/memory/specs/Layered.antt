@@ -2,7 +2,7 @@
 use Rattle.std.specs.Prelude.{◌≡◌, ℕ, ◌<◌, ◌≤◌, Ok, Err, Result}
 use Rattle.refusal.specs.declared.Refusal.{Refusal}
 use Rattle.refusal.specs.declared.Refusal.TheVariants.{Cell}
-use Rattle.memory.specs.Mem.{Layout, Mem}
+use Rattle.memory.specs.Mem.{Mem}
 
 -- Over n cells the layer has `size n` cells, and its cell k is cell `index n k` below; the span and the bottom are those below.
 abbrev pub layered : (ℕ → ℕ) → (ℕ → ℕ → ℕ) → Mem → Mem

@@ -1,7 +1,7 @@
 -- The cells of a memory as a list, and what writes, knocks and refusals are to that list.
 use Rattle.std.specs.Prelude.{◌≡◌, ℕ, ◌<◌, Bool, cond, List, map, length, ◌==◌, slice_set}
 use Rattle.std.specs.List.{range_with_len}
-use Rattle.memory.specs.Mem.{Layout, Mem, Leaves}
+use Rattle.memory.specs.Mem.{Mem, Leaves}
 
 -- What the cells show, from cell 0 up.
 abbrev pub listed : Mem → List Bool
