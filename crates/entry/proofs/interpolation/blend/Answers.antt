@@ -25,8 +25,8 @@ module _ (c : goal.After-nearest_quotient) where
       let r : to_z w64 (of_z w64 c.nearest_quotient.result) ≡ c.nearest_quotient.result = omega (arith, ints) in
       r ∙ c.nearest_quotient.ensures ∙ (λ i. nearest (s i) 65536) ∙ (λ i. nearest (c.exact_sum.ensures i) 65536) ∙ (λ i. nearest (blended (x i) (y i) c.args.fraction) 65536)
 
-pub overflow-cast-result : goal.overflow-cast-result
-overflow-cast-result c = subst (SFits w16) (sym (result_is c)) (fits c)
+pub overflow_cast-result : goal.overflow_cast-result
+overflow_cast-result c = subst (SFits w16) (sym (result_is c)) (fits c)
 
 pub returns : goal.returns
 returns c =

@@ -32,11 +32,11 @@ module _ (c : goal.After-from-4) where
   fits : SFits w64 (blended c.args.entry c.args.next c.args.fraction)
   fits = sum_fits c.args.entry c.args.next c.args.fraction below c.ranges.entry c.ranges.next
 
-pub overflow-mul-result-2 : goal.overflow-mul-result-2
-overflow-mul-result-2 c = subst (SFits w64) (sym (product c)) (product-fits c)
+pub overflow_mul-result-2 : goal.overflow_mul-result-2
+overflow_mul-result-2 c = subst (SFits w64) (sym (product c)) (product-fits c)
 
-pub overflow-add-result : goal.overflow-add-result
-overflow-add-result c = subst (SFits w64) (sym (sum c)) (fits c)
+pub overflow_add-result : goal.overflow_add-result
+overflow_add-result c = subst (SFits w64) (sym (sum c)) (fits c)
 
 pub returns : goal.returns
 returns c = (λ i. to_z w64 (of_z w64 (sum c i))) ∙ to_z-of_z w64 _ (fits c)

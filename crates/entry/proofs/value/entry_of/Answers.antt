@@ -16,7 +16,7 @@ returns-then-abs c =
     let f : SFits w16 r.result = search rules in
     let a =
     ap Ok (to_z-of_z w16 r.result f ∙ r.ensures ∙ ap (to_signed 15) (c.nearest_float.ensures ∙ ap (λ (y : Float). round_with rounded rounded binary64 (mul binary64 v y)) sixty_four))
-    ∙ accepts v (passes _ c.well-formed.0.1) (sym (λ i. le (c.abs.ensures.value i) (five_hundred i)) ∙ c.if-abs.true) in
+    ∙ accepts v (passes _ c.well_formed.0.1) (sym (λ i. le (c.abs.ensures.value i) (five_hundred i)) ∙ c.if-abs.true) in
     record { answer = a; law = subst (Represents v) (sym a) (represents v); back = λ z h k. a ∙ way_back v z h k }
 
 pub returns-else-abs : goal.returns-else-abs
