@@ -6,13 +6,13 @@ use Rattle.line.proofs.command.knock.Goals as goal
 
 pub returns-in_err-from : goal.returns-in_err-from
 returns-in_err-from c =
-    let p = err_from_is_err_and c.from-residual.result c.from-residual.ensures.1 in
+    let p = err_from_is_err_and c.from_residual.result c.from_residual.ensures.1 in
     let r = c.in_err-from.ensures in
     rw (p.1, p.2) (r.0, none_after 75 c.args.fields.now (λ e. omega arith) (λ e. omega arith) (λ e. λ t u m n a b. r.1 t u m a) (λ e. omega arith))
 
 pub returns-in_err-length : goal.returns-in_err-length
 returns-in_err-length c =
-    let p = err_from_is_err_and c.from-residual-in_err-length.result c.from-residual-in_err-length.ensures.1 in
+    let p = err_from_is_err_and c.from_residual-in_err-length.result c.from_residual-in_err-length.ensures.1 in
     let s = c.args.fields.now in
     let f = c.in_ok-from.ensures in
     let r = c.in_err-length.ensures in

@@ -5,6 +5,6 @@ use Rattle.line.proofs.command.mend.Goals as goal
 
 pub returns-in_err-row : goal.returns-in_err-row
 returns-in_err-row c =
-    let p = err_from_is_err_and c.from-residual.result c.from-residual.ensures.1 in
+    let p = err_from_is_err_and c.from_residual.result c.from_residual.ensures.1 in
     let r = c.in_err-row.ensures in
     rw (p.1, p.2) (r.0, none_after 77 c.args.field.now (λ e. omega arith) (λ e. omega arith) (λ e. omega arith) (λ e. r.1))

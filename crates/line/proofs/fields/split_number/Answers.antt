@@ -24,7 +24,7 @@ returns-then-space-fields c = (
 
 pub returns-in_err-number : goal.returns-in_err-number
 returns-in_err-number c =
-    let p = err_from_is_err_and c.from-residual.result c.from-residual.ensures.1 in
+    let p = err_from_is_err_and c.from_residual.result c.from_residual.ensures.1 in
     let s = c.args.fields.now in
     let k = c.position-space.result in
     let z : k ≡ k - 0 = omega arith in

@@ -1,5 +1,5 @@
 -- The first line ends at the first newline, or with the input.
-use Rattle.std.proofs.Common.{◌≡◌, ℕ, ◌+◌, ◌-◌, ◌<◌, List, [], ◌∷◌, length, take, drop, sym, refl, ap, ◌∙◌, arith, Bor, rules}
+use Rattle.std.proofs.Common.{◌≡◌, ℕ, ◌+◌, ◌-◌, List, ◌∷◌, take, drop, sym, refl, ap, ◌∙◌, arith, Bor, rules}
 use Rattle.std.proofs.lemmas.List.{nil_from_length, take_rest}
 use Rattle.line.specs.Lines.{lines_of}
 use Rattle.line.proofs.Joined.{step_cut, step_last}
@@ -10,7 +10,7 @@ use Rattle.std.proofs.iter.Next.{firm}
 pub returns-in_err-end : goal.returns-in_err-end
 returns-in_err-end c =
     let n = c.in_err-end.ensures in
-    rw c.from-residual.ensures (record { steps = (ap lines_of (nil_from_length _ n), refl); goes = firm (tt) (λ h. search rules) })
+    rw c.from_residual.ensures (record { steps = (ap lines_of (nil_from_length _ n), refl); goes = firm (tt) (λ h. search rules) })
 
 pub returns : goal.returns
 returns c =
