@@ -1,11 +1,11 @@
 -- Numerals: two digits that are read one by one, and the digits that a decimal number is printed in.
-use Rattle.std.proofs.Common.{◌≡◌, ℕ, ◌+◌, ◌-◌, ◌*◌, ◌/◌, ◌%◌, ◌^◌, ◌<◌, List, [], ◌∷◌, length, get_or, fold, sym, refl, ap, ◌∙◌, arith, lit<}
+use Rattle.std.proofs.Common.{◌≡◌, ℕ, ◌+◌, ◌-◌, ◌*◌, ◌/◌, ◌%◌, ◌^◌, ◌<◌, List, [], ◌∷◌, length, get_or, sym, ap, ◌∙◌, arith, lit<}
 use Rattle.std.specs.Fmt as W
 use Rattle.std.specs.List.{AllByRecursion as All}
 use Rattle.std.proofs.lemmas.Fmt.{decimal_by_steps, length-decimal-le, decimal_nonempty}
 use Rattle.std.proofs.ByRecursion.{All-push, All-weaker}
 use Rattle.std.proofs.lemmas.List.Sums.{fold_push}
-use Rattle.line.specs.Digits.{hex_digit, hex_byte}
+use Rattle.line.specs.Digits.{hex_digit}
 use Rattle.line.specs.Lines.{Lacks}
 use Rattle.line.specs.Spelling.{Digit, HexDigit, HexNumeral, Numeral, value}
 

@@ -1,5 +1,5 @@
 -- Each turn adds a digit; a byte that is none ends the search for a numeral.
-use Rattle.std.proofs.Common.{◌≡◌, ℕ, ◌+◌, ◌-◌, ◌*◌, ◌^◌, get_or, take, sym, refl, ap, ◌∙◌, subst, arith, pow-add, rules}
+use Rattle.std.proofs.Common.{◌≡◌, ◌+◌, ◌-◌, ◌*◌, ◌^◌, get_or, take, sym, refl, ap, ◌∙◌, subst, arith, pow-add, rules}
 use Rattle.std.specs.List.{AllByRecursion as All}
 use Rattle.std.proofs.ByRecursion.{All-get_or, All-more}
 use Rattle.std.proofs.lemmas.List.{take_all}

@@ -1,5 +1,5 @@
 -- The first line ends at the first newline, or with the input.
-use Rattle.std.proofs.Common.{◌≡◌, ℕ, ◌+◌, ◌-◌, ◌<◌, List, [], ◌∷◌, length, take, drop, sym, refl, ap, ◌∙◌, arith, Bor, rules}
+use Rattle.std.proofs.Common.{◌≡◌, ℕ, ◌+◌, ◌-◌, List, ◌∷◌, take, drop, sym, refl, ap, ◌∙◌, arith, Bor, rules}
 use Rattle.std.proofs.lemmas.List.{nil_from_length, take_rest}
 use Rattle.line.specs.Lines.{lines_of}
 use Rattle.line.proofs.Joined.{step_cut, step_last}
