@@ -110,7 +110,7 @@ module _ (b b' : BookModel) (laws : FieldLaws b.field) (few : Few b.strength) (s
       (carries.mended r m.1.0 (cell b) (cell b') (near (row_cells b r) m.1.0 m.1.1) (laid-only r m.1.0 m.0 m.1.1.code.cells m.1.2))
   mend_leads r (Err e) m =
       leads (mend r) m.1.0.0
-      (carries.not-mended r (cell b) (cell b')
+      (carries.not_mended r (cell b) (cell b')
       (⊎_elim (λ bad. inl (past r (rows_of b) bad.0)) (λ u. ⊎_elim (λ bad. inr (far r bad.0)) (λ never. absurd never.1) u.1) m.0)
       (unchanged m.1))
 
@@ -124,7 +124,7 @@ module _ (b b' : BookModel) (laws : FieldLaws b.field) (few : Few b.strength) (s
   knock_leads U from len (Ok u) m =
       leads (knock from len) m.1.0 (carries.knocked from len (cell b) (cell b') m.0 (λ c l. m.1.1 c (omega (arith, rows_room b))))
   knock_leads U from len (Err e) m =
-      leads (knock from len) m.2.0.0 (carries.not-knocked from len (cell b) (cell b') m.0 (unchanged m.2))
+      leads (knock from len) m.2.0.0 (carries.not_knocked from len (cell b) (cell b') m.0 (unchanged m.2))
 
 -- the contracts
 pub write_call : (U : Type 0) (b b' : BookModel) → FieldLaws b.field → Few b.strength → SameFigures b b'

@@ -1,11 +1,10 @@
 -- One more cell moved.
-use Rattle.std.proofs.Common.{◌≡◌, ℕ, ◌+◌, ◌*◌, ◌<◌, ◌≤◌, Bool, true, false, cond, eqb, ltb, ◌⊎◌, List, length, Ok, Err, Result, sym, refl, ap, ◌∙◌, ap₂, inl, inr, ⊎_elim, arith}
+use Rattle.std.proofs.Common.{◌≡◌, ℕ, ◌+◌, ◌*◌, ◌<◌, Bool, false, cond, eqb, ltb, List, length, Ok, Err, Result, sym, refl, ap, ◌∙◌, ap₂, inl, inr, ⊎_elim, arith}
 use Rattle.std.proofs.lemmas.Bool.{eq-eqb, ne_eqb, lt-ltb, le-ltb, cases_eq}
 use Rattle.refusal.specs.declared.Refusal.{Refusal}
 use Rattle.bits.specs.Bits.{bit_at, Sized, Buffer}
 use Rattle.bits.specs.Calls.{Changed}
-use Rattle.memory.specs.Mem.{Bottom, Layout, Mem, Unchanged, Put}
-use Rattle.galois.specs.Lists.{tabulate}
+use Rattle.memory.specs.Mem.{Layout, Mem, Put}
 use Rattle.galois.proofs.Tabulated.{tabulate-cong}
 use Rattle.bch.specs.Buffers.{shown}
 use Rattle.bch.proofs.Laying.{below_put}

@@ -4,7 +4,7 @@ use Rattle.refusal.specs.Order.{Unless, Never}
 use Rattle.refusal.specs.declared.Refusal.{Refusal}
 use Rattle.refusal.specs.declared.Refusal.TheVariants.{Length, Cell}
 use Rattle.bits.specs.Bits.{bit_at, Sized, Buffer}
-use Rattle.memory.specs.Mem.{Bottom, Layout, Mem, Unchanged}
+use Rattle.memory.specs.Mem.{Mem, Unchanged}
 use Rattle.galois.specs.Lists.{tabulate}
 use Rattle.bch.specs.Buffers.{shown}
 

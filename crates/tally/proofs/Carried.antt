@@ -117,8 +117,8 @@ module _ (b : Setting) (law : Lawful b) where
 
   given : (r : ℕ) (cell : ℕ → Bool) (c : List Bool) → r < R → Near b s (row_of b cell r) c → ReadPromise b r cell (some (dataCellsOf b c))
   given r cell c l m = record {
-    honest = λ h v w d e. let f : d ≡ dataCellsOf b c = cc in f ∙ stands.true-data h r l w c (at-tally h cell v r l c m);
-    sure = λ h v o. ap some (stands.true-data h r l (looser b law (after b h r) (calm h r l o)) c (at-tally h cell v r l c m));
+    honest = λ h v w d e. let f : d ≡ dataCellsOf b c = cc in f ∙ stands.true_data h r l w c (at-tally h cell v r l c m);
+    sure = λ h v o. ap some (stands.true_data h r l (looser b law (after b h r) (calm h r l o)) c (at-tally h cell v r l c m));
   }
 
   refused : (r : ℕ) (cell : ℕ → Bool) → r < R → ((c : List Bool) → Near b s (row_of b cell r) c → ⊥) → ReadPromise b r cell none × MendPromise b r cell false

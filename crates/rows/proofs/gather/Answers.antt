@@ -1,6 +1,6 @@
-use Rattle.std.proofs.Common.{◌≡◌, ◌*◌, ◌<◌, length, sym, arith}
+use Rattle.std.proofs.Common.{◌≡◌, ◌*◌, ◌<◌, length, arith}
 use Rattle.bits.specs.Bits.{Sized}
-use Rattle.rows.proofs.Moving.{Filled, filled_none, filled_more, filled_all}
+use Rattle.rows.proofs.Moving.{filled_none, filled_more, filled_all}
 use Rattle.rows.proofs.gather.Goals as goal
 
 pub loop-j-init : goal.loop-j-init

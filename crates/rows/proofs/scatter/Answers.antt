@@ -1,6 +1,5 @@
 use Rattle.std.proofs.Common.{◌≡◌, refl, arith}
 use Rattle.bits.specs.Bits.{bit_at}
-use Rattle.rows.specs.Laid.{Laid}
 use Rattle.rows.proofs.Moving.{laid_none, laid_more}
 use Rattle.rows.proofs.scatter.Goals as goal
 
