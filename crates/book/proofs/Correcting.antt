@@ -1,12 +1,12 @@
 -- A row gathered and corrected, over plain values.
-use Rattle.std.proofs.Common.{◌≡◌, ℕ, ◌+◌, ◌*◌, ◌<◌, ◌≤◌, Bool, ◌⊎◌, List, Ok, Err, Result, sym, refl, ap, ◌∙◌, subst, inl, inr, ⊎_elim, arith}
+use Rattle.std.proofs.Common.{◌≡◌, ℕ, ◌*◌, ◌<◌, ◌≤◌, Bool, List, Ok, Err, sym, refl, ◌∙◌, subst, inl, inr, ⊎_elim, arith}
 use Rattle.refusal.specs.Order.{Unless, Never}
 use Rattle.refusal.specs.declared.Refusal.{Refusal}
-use Rattle.refusal.specs.declared.Refusal.TheVariants.{Row, Length, UnusedBit, NoCodeRow}
-use Rattle.bits.specs.Bits.{bit_at, Sized, Unused, Buffer}
+use Rattle.refusal.specs.declared.Refusal.TheVariants.{Row, Length, NoCodeRow}
+use Rattle.bits.specs.Bits.{bit_at, Sized, Buffer}
 use Rattle.memory.specs.Mem.{Mem, Unchanged}
-use Rattle.galois.specs.Model.{FieldModel, FieldLaws, units}
-use Rattle.galois.specs.Rows.{Few, CodeRow, Near, cell_of, distance}
+use Rattle.galois.specs.Model.{FieldLaws}
+use Rattle.galois.specs.Rows.{Few, Near, cell_of, distance}
 use Rattle.galois.proofs.Least.{rows_apart}
 use Rattle.bch.specs.Buffers.{shown}
 use Rattle.bch.specs.Calls.{Encoded, Extracted}

@@ -1,15 +1,12 @@
 -- What effective figures keep to, whether or not the figures fit.
-use Rattle.std.proofs.Common.{◌≡◌, ℕ, ◌+◌, ◌*◌, ◌<◌, ◌≤◌, Bool, true, false, cond, ◌&&◌, leb, sym, refl, ap, ◌∙◌, subst, mul-le-mul_right, suc-mul, zero-mul, arith}
+use Rattle.std.proofs.Common.{◌≡◌, ℕ, ◌+◌, ◌*◌, ◌<◌, ◌≤◌, Bool, true, false, cond, leb, refl, mul-le-mul_right, suc-mul, zero-mul, arith}
 use Rattle.std.proofs.lemmas.Bool.{and_parts, leb-true}
-use Rattle.memory.specs.Mem.{Layout, Mem}
-use Rattle.galois.specs.Model.{FieldModel, FieldLaws, units}
+use Rattle.galois.specs.Model.{FieldLaws}
 use Rattle.galois.specs.Rows.{Few}
 use Rattle.bch.proofs.Counts.{units_lt}
-use Rattle.tally.specs.Tally.{Setting}
 use Rattle.tally.specs.Damage.{Lawful}
-use Rattle.tally.specs.Fields.{FieldCode}
 use Rattle.tally.proofs.Fields.{field_codes}
-use Rattle.book.specs.Model.{BookModel, FiguresFit, figures_test, effective, setting_at, setting, rows_of, reach_of, row_size}
+use Rattle.book.specs.Model.{BookModel, FiguresFit, figures_test, setting, rows_of, reach_of, row_size}
 
 module _ (n t s R N : ℕ) where
   fit : figures_test n t s R N ≡ true → FiguresFit n t s R N

@@ -1,24 +1,23 @@
 -- What each call does leads on every history, and bears its promise.
-use Rattle.std.proofs.Common.{◌≡◌, ℕ, zero, suc, ◌+◌, ◌*◌, ◌<◌, ◌≤◌, Bool, true, false, ◌≢◌, ◌⊎◌, List, [], ◌∷◌, length, is_ok, Ok, Err, Result, sym, refl, ap, ◌∙◌, subst, inl, inr, ⊎_elim, mul-le-mul_right, suc-mul, arith}
-use mathlib.Core.Option.{Option, none, some}
+use Rattle.std.proofs.Common.{◌≡◌, ℕ, ◌+◌, ◌*◌, ◌<◌, ◌≤◌, Bool, false, ◌≢◌, ◌⊎◌, List, [], ◌∷◌, length, is_ok, Ok, Err, Result, sym, refl, ap, ◌∙◌, subst, inl, inr, ⊎_elim, mul-le-mul_right, suc-mul, arith}
+use mathlib.Core.Option.{none, some}
 use lib.Arith.{digits_lt}
 use Rattle.std.proofs.lemmas.Bool.{cases_lt, cases_order}
 use Rattle.refusal.specs.Order.{Unless, Never}
 use Rattle.refusal.specs.declared.Refusal.{Refusal}
 use Rattle.refusal.specs.declared.Refusal.TheVariants.{Row, Length, UnusedBit}
 use Rattle.bits.specs.Bits.{bit_at, Sized, Unused, Buffer}
-use Rattle.memory.specs.Mem.{Layout, Mem, Unchanged, Knocked}
+use Rattle.memory.specs.Mem.{Mem, Unchanged, Knocked}
 use Rattle.galois.specs.Lists.{tabulate}
-use Rattle.galois.specs.Model.{FieldModel, FieldLaws, units}
-use Rattle.galois.specs.Rows.{Few, CodeRow, cell_of, data_of, data_cells, distance, Systematic}
+use Rattle.galois.specs.Model.{FieldLaws}
+use Rattle.galois.specs.Rows.{Few, cell_of}
 use Rattle.galois.proofs.Tabulated.{length-tabulate, tabulate-cong, tabulate-getD}
 use Rattle.bch.specs.Buffers.{shown}
-use Rattle.rows.specs.Laid.{run, Laid}
-use Rattle.tally.specs.Tally.{Setting, Call, write, read, mend, sweep, knock}
+use Rattle.tally.specs.Tally.{Setting, Call, write, mend, knock}
 use Rattle.tally.specs.Buffers.{unpacked}
 use Rattle.tally.specs.Damage.{Lawful, Near}
 use Rattle.tally.specs.Fields.{code_row_of, FieldCode}
-use Rattle.tally.specs.Promises.{row_of, Holds, Keeps, ReadPromise, MendPromise, Only, Same, Carries}
+use Rattle.tally.specs.Promises.{Holds, Keeps, ReadPromise, MendPromise, Only, Same, Carries}
 use Rattle.tally.proofs.Buffers.{buffer-unpacked, other_unpacked}
 use Rattle.tally.proofs.Carried.{call_laws}
 use Rattle.tally.proofs.Fields.{field_codes}
@@ -30,7 +29,7 @@ use Rattle.memory.specs.declared.Memory.{Ghosts as Memories}
 use Rattle.book.specs.declared.Book.{Book}
 use Rattle.book.specs.Meaning.{meaning, Kept}
 use Rattle.book.specs.Promised.{WriteCall, ReadCall, MendCall, KnockCall}
-use Rattle.book.proofs.Effective.{reach_within, rows_room, row_ends, book_lawful}
+use Rattle.book.proofs.Effective.{rows_room, book_lawful}
 
 -- the figures stay as they are
 pub record SameFigures (b b' : BookModel) : Type 0 where

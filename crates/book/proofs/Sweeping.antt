@@ -1,21 +1,18 @@
 -- One mend after another is a sweep.
-use Rattle.std.proofs.Common.{◌≡◌, ℕ, zero, suc, ◌+◌, ◌*◌, ◌<◌, ◌≤◌, Bool, true, false, cond, ◌≢◌, ◌⊎◌, List, [], ◌∷◌, ◌++◌, Ok, Err, Result, sym, refl, ap, ◌∙◌, subst, inl, inr, ⊎_elim, suc-mul, add-one, arith}
-use mathlib.Core.Option.{Option, none, some}
+use Rattle.std.proofs.Common.{◌≡◌, ℕ, zero, suc, ◌+◌, ◌*◌, ◌<◌, ◌≤◌, Bool, cond, ◌≢◌, ◌⊎◌, List, ◌∷◌, ◌++◌, Ok, Err, Result, sym, refl, ap, ◌∙◌, subst, inl, inr, ⊎_elim, add-one, arith}
 use lib.Arith.{digits_lt}
 use Rattle.std.proofs.lemmas.Bool.{cases_eq}
 use Rattle.refusal.specs.declared.Refusal.{Refusal}
-use Rattle.memory.specs.Mem.{Bottom, Layout, Mem, Unchanged}
-use Rattle.galois.specs.Lists.{tabulate}
-use Rattle.galois.specs.Model.{FieldModel, FieldLaws}
-use Rattle.galois.specs.Rows.{Few, CodeRow, distance}
+use Rattle.memory.specs.Mem.{Layout, Mem}
+use Rattle.galois.specs.Model.{FieldLaws}
+use Rattle.galois.specs.Rows.{Few, distance}
 use Rattle.galois.proofs.Tabulated.{length-tabulate, tabulate-cong}
 use Rattle.tally.specs.Rows.{hits, total}
 use Rattle.tally.specs.Tally.{Setting, Call, mend, sweep, nearest}
-use Rattle.tally.specs.Damage.{Lawful, Near, mends}
-use Rattle.tally.specs.Promises.{is_none, Holds, Only, Carries}
+use Rattle.tally.specs.Damage.{mends}
+use Rattle.tally.specs.Promises.{is_none, Holds}
 use Rattle.tally.proofs.Carried.{nearest-is, nearest-none}
 use Rattle.tally.proofs.Knocks.{distance_self}
-use Rattle.rows.specs.Laid.{Laid}
 use Rattle.book.specs.Model.{BookModel, setting, cell, rows_of, reach_of, row_size}
 use Rattle.book.specs.Calls.{row_cells, InReach, SweptRow, Mended, Swept, Led}
 use Rattle.book.specs.Promised.{SweepCall}

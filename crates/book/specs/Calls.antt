@@ -1,16 +1,15 @@
 -- What each call of a book answers and leaves: b is the book before, b' the book after.
-use Rattle.std.specs.Prelude.{◌≡◌, ℕ, ◌+◌, ◌*◌, ◌<◌, ◌≤◌, Bool, false, ◌⊎◌, List, [], ◌∷◌, length, Ok, Err, Result, ◌≢◌}
+use Rattle.std.specs.Prelude.{◌≡◌, ℕ, ◌+◌, ◌*◌, ◌<◌, ◌≤◌, Bool, false, ◌⊎◌, List, ◌∷◌, Ok, Err, Result, ◌≢◌}
 use Rattle.std.proofs.Math.Option.{Option, none, some}
 use Rattle.refusal.specs.Order.{Unless, Never}
 use Rattle.refusal.specs.declared.Refusal.{Refusal}
 use Rattle.refusal.specs.declared.Refusal.TheVariants.{Row, Length, UnusedBit, NoCodeRow}
 use Rattle.bits.specs.Bits.{Sized, Unused, Buffer}
-use Rattle.memory.specs.Mem.{Layout, Bottom, Mem, Unchanged}
+use Rattle.memory.specs.Mem.{Mem, Unchanged}
 use Rattle.galois.specs.Rows.{CodeRow, Systematic, cell_of, data_of, distance}
 use Rattle.bch.specs.Buffers.{shown}
 use Rattle.rows.specs.Laid.{run, Laid}
 use Rattle.tally.specs.Rows.{hits, total}
-use Rattle.tally.specs.Buffers.{unpacked}
 use Rattle.tally.specs.Tally.{Call, nearest}
 use Rattle.tally.specs.Promises.{Holds, is_none}
 use Rattle.book.specs.Model.{BookModel, setting, cell, rows_of, reach_of, row_size, data_size}

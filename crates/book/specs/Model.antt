@@ -1,5 +1,5 @@
 -- What a book means, and when its figures fit.
-use Rattle.std.specs.Prelude.{ℕ, ◌*◌, ◌≤◌, Bool, cond, ◌&&◌, List, nat_le}
+use Rattle.std.specs.Prelude.{ℕ, ◌*◌, ◌≤◌, Bool, cond, ◌&&◌, nat_le}
 use Rattle.memory.specs.Mem.{Layout, Mem}
 use Rattle.galois.specs.Model.{FieldModel, units}
 use Rattle.galois.specs.Rows.{data_cells}

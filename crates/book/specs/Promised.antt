@@ -1,8 +1,8 @@
 -- The contracts of the calls: what each does, that it leads on every history, and what it promises of its answer after every history.
-use Rattle.std.specs.Prelude.{◌≡◌, ℕ, ◌<◌, Bool, List, length, is_ok, Result}
+use Rattle.std.specs.Prelude.{ℕ, ◌<◌, List, length, is_ok, Result}
 use Rattle.refusal.specs.declared.Refusal.{Refusal}
-use Rattle.memory.specs.Mem.{Mem, Knocked}
-use Rattle.tally.specs.Tally.{Setting, Call, write, read, mend, sweep, knock}
+use Rattle.memory.specs.Mem.{Knocked}
+use Rattle.tally.specs.Tally.{write, read, mend, sweep, knock}
 use Rattle.tally.specs.Promises.{ReadPromise, MendPromise, SweepPromise}
 use Rattle.book.specs.Model.{BookModel, setting, cell, rows_of}
 use Rattle.book.specs.Calls.{Wrote, Looked, Mended, Swept, Leads, ProperRead, answered}

@@ -17,8 +17,8 @@ impl<C: Corrector, M: Memory> Book<C, M> {
     /// A book whose rows are all zero; no other cell changes. Of no rows, and no cell changes, where the figures do not fit.
     pub fn blank(corrector: C, memory: M, reach: u8, rows: u32) -> Book<C, M>
         ensures figures { (result.corrector ≡ corrector) × ((result.reach ≡ reach) × (result.rows ≡ rows)) }
-        ensures cells { Blanked (M.Memory.means memory) (meaning C.Field C.Corrector M.Memory result) }
-        ensures history { Led [] (meaning C.Field C.Corrector M.Memory result) }
+        ensures cells { Blanked (M.Memory.means memory) (meaning C.Field C.Corrector.own M.Memory result) }
+        ensures history { Led [] (meaning C.Field C.Corrector.own M.Memory result) }
     {
         let mut book = Book::open(corrector, memory, reach, rows);
         book.erase();
@@ -27,7 +27,7 @@ impl<C: Corrector, M: Memory> Book<C, M> {
 
     fn erase(&mut self)
         ensures kept { Kept self.old self.new }
-        ensures cells { Blanked (M.Memory.means self.old.memory) (meaning C.Field C.Corrector M.Memory self.new) }
+        ensures cells { Blanked (M.Memory.means self.old.memory) (meaning C.Field C.Corrector.own M.Memory self.new) }
     {
         let cells = self.rows() * row_cells(&self.corrector) as u32;
         match zero(&mut self.memory, cells) {
@@ -39,7 +39,7 @@ impl<C: Corrector, M: Memory> Book<C, M> {
     /// Mends every row from 0 up, and counts. Never refused.
     pub fn sweep(&mut self) -> SweepCounts
         ensures kept { Kept self.old self.new }
-        ensures call { SweepCall (meaning C.Field C.Corrector M.Memory self.old) (meaning C.Field C.Corrector M.Memory self.new) result.accepted result.refused result.turned }
+        ensures call { SweepCall (meaning C.Field C.Corrector.own M.Memory self.old) (meaning C.Field C.Corrector.own M.Memory self.new) result.accepted result.refused result.turned }
     {
         let mut counts = SweepCounts {
             accepted: 0,
@@ -61,7 +61,7 @@ impl<C: Corrector, M: Memory> Book<C, M> {
     /// Turns the cells at `length` places from place `from` on, those of rows and others. Refused with 9 where the run passes the span.
     pub fn knock(&mut self, from: u32, length: u32) -> Result<(), Refusal>
         ensures kept { Kept self.old self.new }
-        ensures call { KnockCall (meaning C.Field C.Corrector M.Memory self.old) (meaning C.Field C.Corrector M.Memory self.new) from length result }
+        ensures call { KnockCall (meaning C.Field C.Corrector.own M.Memory self.old) (meaning C.Field C.Corrector.own M.Memory self.new) from length result }
     {
         self.memory.knock(from, length)
     }

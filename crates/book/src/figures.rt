@@ -40,7 +40,7 @@ impl<C: Corrector, M: Memory> Book<C, M> {
 
     /// R, how many rows there are: none where the figures do not fit.
     pub fn rows(&self) -> u32
-        ensures { result ≡ rows_of (meaning C.Field C.Corrector M.Memory self.now) }
+        ensures { result ≡ rows_of (meaning C.Field C.Corrector.own M.Memory self.now) }
     {
         if figures_fit(&self.corrector, &self.memory, self.reach, self.rows) {
             self.rows
@@ -51,7 +51,7 @@ impl<C: Corrector, M: Memory> Book<C, M> {
 
     /// s, how many turned cells of a row a read or a mend corrects: 0 where the figures do not fit.
     pub fn reach(&self) -> u8
-        ensures { result ≡ reach_of (meaning C.Field C.Corrector M.Memory self.now) }
+        ensures { result ≡ reach_of (meaning C.Field C.Corrector.own M.Memory self.now) }
     {
         if figures_fit(&self.corrector, &self.memory, self.reach, self.rows) {
             self.reach
@@ -62,14 +62,14 @@ impl<C: Corrector, M: Memory> Book<C, M> {
 
     /// n, the cells of a row.
     pub fn row_cells(&self) -> u8
-        ensures { result ≡ row_size (meaning C.Field C.Corrector M.Memory self.now) }
+        ensures { result ≡ row_size (meaning C.Field C.Corrector.own M.Memory self.now) }
     {
         row_cells(&self.corrector)
     }
 
     /// k, the data cells of a row.
     pub fn data_cells(&self) -> u8
-        ensures { result ≡ data_size (meaning C.Field C.Corrector M.Memory self.now) }
+        ensures { result ≡ data_size (meaning C.Field C.Corrector.own M.Memory self.now) }
     {
         match data_cells(&self.corrector, self.corrector.corrects()) {
             Ok(k) => k,

@@ -20,7 +20,7 @@ impl<C: Corrector, M: Memory> Book<C, M> {
     /// that is set.
     pub fn write(&mut self, row: u32, bytes: &[u8]) -> Result<(), Refusal>
         ensures kept { Kept self.old self.new }
-        ensures call { WriteCall (meaning C.Field C.Corrector M.Memory self.old) (meaning C.Field C.Corrector M.Memory self.new) row bytes.now result }
+        ensures call { WriteCall (meaning C.Field C.Corrector.own M.Memory self.old) (meaning C.Field C.Corrector.own M.Memory self.new) row bytes.now result }
     {
         if row >= self.rows() {
             return Err(Refusal::Row);
@@ -35,7 +35,7 @@ impl<C: Corrector, M: Memory> Book<C, M> {
     /// Fills a buffer with the data of the only code row within s positions of a row, and answers in how many cells the row differs from it.
     /// Refused with 6 for a wrong row number, 7 for a wrong length, 10 where no code row is that near; a refusal leaves the buffer.
     pub fn read(&self, row: u32, bytes: &mut [u8]) -> Result<u8, Refusal>
-        ensures { ReadCall (meaning C.Field C.Corrector M.Memory self.now) row bytes.old bytes.new result }
+        ensures { ReadCall (meaning C.Field C.Corrector.own M.Memory self.now) row bytes.old bytes.new result }
     {
         if row >= self.rows() {
             return Err(Refusal::Row);
@@ -54,7 +54,7 @@ impl<C: Corrector, M: Memory> Book<C, M> {
     /// wrong row number, 10 where no code row is that near.
     pub fn mend(&mut self, row: u32) -> Result<u8, Refusal>
         ensures kept { Kept self.old self.new }
-        ensures call { MendCall (meaning C.Field C.Corrector M.Memory self.old) (meaning C.Field C.Corrector M.Memory self.new) row result }
+        ensures call { MendCall (meaning C.Field C.Corrector.own M.Memory self.old) (meaning C.Field C.Corrector.own M.Memory self.new) row result }
     {
         if row >= self.rows() {
             return Err(Refusal::Row);
@@ -68,9 +68,9 @@ impl<C: Corrector, M: Memory> Book<C, M> {
 
     /// A copy of a row in `cells`, made the code row within the reach, and how many cells that turned.
     fn corrected(&self, row: u32, cells: &mut [u8]) -> Result<u8, Refusal>
-        requires row { row < rows_of (meaning C.Field C.Corrector M.Memory self.now) }
-        requires sized { Sized (row_size (meaning C.Field C.Corrector M.Memory self.now)) cells.old }
-        ensures { Found (meaning C.Field C.Corrector M.Memory self.now) row cells.new result }
+        requires row { row < rows_of (meaning C.Field C.Corrector.own M.Memory self.now) }
+        requires sized { Sized (row_size (meaning C.Field C.Corrector.own M.Memory self.now)) cells.old }
+        ensures { Found (meaning C.Field C.Corrector.own M.Memory self.now) row cells.new result }
     {
         let n = row_cells(&self.corrector);
         match gather(&self.memory, row * n as u32, n, cells) {
@@ -86,10 +86,10 @@ impl<C: Corrector, M: Memory> Book<C, M> {
 
     /// Gives the cells of a row the bits of a row buffer.
     fn lay(&mut self, row: u32, cells: &[u8])
-        requires row { row < rows_of (meaning C.Field C.Corrector M.Memory self.old) }
-        requires sized { Sized (row_size (meaning C.Field C.Corrector M.Memory self.old)) cells.now }
+        requires row { row < rows_of (meaning C.Field C.Corrector.own M.Memory self.old) }
+        requires sized { Sized (row_size (meaning C.Field C.Corrector.own M.Memory self.old)) cells.now }
         ensures kept { Kept self.old self.new }
-        ensures laid { Laid (row * row_size (meaning C.Field C.Corrector M.Memory self.old)) (row_size (meaning C.Field C.Corrector M.Memory self.old)) (bit_at 8 cells.now) (M.Memory.means self.old.memory) (M.Memory.means self.new.memory) }
+        ensures laid { Laid (row * row_size (meaning C.Field C.Corrector.own M.Memory self.old)) (row_size (meaning C.Field C.Corrector.own M.Memory self.old)) (bit_at 8 cells.now) (M.Memory.means self.old.memory) (M.Memory.means self.new.memory) }
     {
         let n = row_cells(&self.corrector);
         match scatter(&mut self.memory, row * n as u32, n, cells) {

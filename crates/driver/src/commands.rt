@@ -14,7 +14,7 @@ use memory::Memory;
 /// Makes the call of a command, and answers it.
 pub fn run_command<C: Corrector, M: Memory>(book: &mut Book<C, M>, command: Command) -> Answer
     ensures kept { Kept book.old book.new }
-    ensures call { Made (meaning C.Field C.Corrector M.Memory book.old) (meaning C.Field C.Corrector M.Memory book.new) command result }
+    ensures call { Made (meaning C.Field C.Corrector.own M.Memory book.old) (meaning C.Field C.Corrector.own M.Memory book.new) command result }
 {
     match command {
         Command::Write { row, byte } => write(book, row, byte),
@@ -27,7 +27,7 @@ pub fn run_command<C: Corrector, M: Memory>(book: &mut Book<C, M>, command: Comm
 
 fn write<C: Corrector, M: Memory>(book: &mut Book<C, M>, row: u32, byte: u8) -> Answer
     ensures kept { Kept book.old book.new }
-    ensures call { Finished (WriteCall (meaning C.Field C.Corrector M.Memory book.old) (meaning C.Field C.Corrector M.Memory book.new) row (byte ∷ [])) result }
+    ensures call { Finished (WriteCall (meaning C.Field C.Corrector.own M.Memory book.old) (meaning C.Field C.Corrector.own M.Memory book.new) row (byte ∷ [])) result }
 {
     match book.write(row, &[byte]) {
         Ok(()) => Answer::Done,
@@ -36,7 +36,7 @@ fn write<C: Corrector, M: Memory>(book: &mut Book<C, M>, row: u32, byte: u8) -> 
 }
 
 fn read<C: Corrector, M: Memory>(book: &Book<C, M>, row: u32) -> Answer
-    ensures { Filled (ReadCall (meaning C.Field C.Corrector M.Memory book.now) row (0 ∷ [])) result }
+    ensures { Filled (ReadCall (meaning C.Field C.Corrector.own M.Memory book.now) row (0 ∷ [])) result }
 {
     let mut bytes = [0u8];
     match book.read(row, &mut bytes) {
@@ -50,7 +50,7 @@ fn read<C: Corrector, M: Memory>(book: &Book<C, M>, row: u32) -> Answer
 
 fn knock<C: Corrector, M: Memory>(book: &mut Book<C, M>, from: u32, length: u32) -> Answer
     ensures kept { Kept book.old book.new }
-    ensures call { Finished (KnockCall (meaning C.Field C.Corrector M.Memory book.old) (meaning C.Field C.Corrector M.Memory book.new) from length) result }
+    ensures call { Finished (KnockCall (meaning C.Field C.Corrector.own M.Memory book.old) (meaning C.Field C.Corrector.own M.Memory book.new) from length) result }
 {
     match book.knock(from, length) {
         Ok(()) => Answer::Done,
@@ -60,7 +60,7 @@ fn knock<C: Corrector, M: Memory>(book: &mut Book<C, M>, from: u32, length: u32)
 
 fn mend<C: Corrector, M: Memory>(book: &mut Book<C, M>, row: u32) -> Answer
     ensures kept { Kept book.old book.new }
-    ensures call { Counted (MendCall (meaning C.Field C.Corrector M.Memory book.old) (meaning C.Field C.Corrector M.Memory book.new) row) result }
+    ensures call { Counted (MendCall (meaning C.Field C.Corrector.own M.Memory book.old) (meaning C.Field C.Corrector.own M.Memory book.new) row) result }
 {
     match book.mend(row) {
         Ok(count) => Answer::Count(count),
@@ -71,7 +71,7 @@ fn mend<C: Corrector, M: Memory>(book: &mut Book<C, M>, row: u32) -> Answer
 /// A book has at most 1024 rows, so that the counts of rows fit.
 fn sweep<C: Corrector, M: Memory>(book: &mut Book<C, M>) -> Answer
     ensures kept { Kept book.old book.new }
-    ensures call { Surveyed (SweepCall (meaning C.Field C.Corrector M.Memory book.old) (meaning C.Field C.Corrector M.Memory book.new)) result }
+    ensures call { Surveyed (SweepCall (meaning C.Field C.Corrector.own M.Memory book.old) (meaning C.Field C.Corrector.own M.Memory book.new)) result }
 {
     let counts = book.sweep();
     Answer::Swept {

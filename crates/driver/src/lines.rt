@@ -22,7 +22,7 @@ pub fn run<C: Corrector, M: Memory>(
     heap: Global,
 ) -> Result<Vec<Answer>, AllocError>
     ensures kept { Kept book.old book.new }
-    ensures answers { MatchResult result (λ answers. Whole (meaning C.Field C.Corrector M.Memory book.old) (meaning C.Field C.Corrector M.Memory book.new) (lines_of input.now) answers.items) (λ _. Part (meaning C.Field C.Corrector M.Memory book.old) (meaning C.Field C.Corrector M.Memory book.new) (lines_of input.now)) }
+    ensures answers { MatchResult result (λ answers. Whole (meaning C.Field C.Corrector.own M.Memory book.old) (meaning C.Field C.Corrector.own M.Memory book.new) (lines_of input.now) answers.items) (λ _. Part (meaning C.Field C.Corrector.own M.Memory book.old) (meaning C.Field C.Corrector.own M.Memory book.new) (lines_of input.now)) }
 {
     let mut answers = Vec::new(heap);
     for line in Lines::new(input) {
@@ -35,8 +35,8 @@ pub fn run<C: Corrector, M: Memory>(
 /// Makes the call that a line spells, given without its newline, and answers it. A line that spells none is refused.
 pub fn run_line<C: Corrector, M: Memory>(book: &mut Book<C, M>, line: &[u8]) -> Answer
     ensures kept { Kept book.old book.new }
-    ensures call { Driven (meaning C.Field C.Corrector M.Memory book.old) (meaning C.Field C.Corrector M.Memory book.new) line.now result }
-    ensures history { LeadsOn (meaning C.Field C.Corrector M.Memory book.old) (meaning C.Field C.Corrector M.Memory book.new) (line.now ∷ []) }
+    ensures call { Driven (meaning C.Field C.Corrector.own M.Memory book.old) (meaning C.Field C.Corrector.own M.Memory book.new) line.now result }
+    ensures history { LeadsOn (meaning C.Field C.Corrector.own M.Memory book.old) (meaning C.Field C.Corrector.own M.Memory book.new) (line.now ∷ []) }
 {
     match parse(line) {
         Ok(command) => run_command(book, command),

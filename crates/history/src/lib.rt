@@ -44,8 +44,8 @@ pub fn make<C: Corrector, M: Memory>(
     call: Call<'_>,
 ) -> Result<Answer, Refusal>
     ensures kept { Kept book.old book.new }
-    ensures made { Made (meaning C.Field C.Corrector M.Memory book.old) (meaning C.Field C.Corrector M.Memory book.new) call.entry result }
-    ensures history { Leads (call_of (data_size (meaning C.Field C.Corrector M.Memory book.old)) call.entry) (meaning C.Field C.Corrector M.Memory book.old) (meaning C.Field C.Corrector M.Memory book.new) }
+    ensures made { Made (meaning C.Field C.Corrector.own M.Memory book.old) (meaning C.Field C.Corrector.own M.Memory book.new) call.entry result }
+    ensures history { Leads (call_of (data_size (meaning C.Field C.Corrector.own M.Memory book.old)) call.entry) (meaning C.Field C.Corrector.own M.Memory book.old) (meaning C.Field C.Corrector.own M.Memory book.new) }
 {
     match call {
         Call::Write { row, bytes } => done(book.write(row, bytes), Answer::Written),
@@ -64,7 +64,7 @@ pub fn replay<C: Corrector, M: Memory>(
     answers: &mut [Result<Answer, Refusal>],
 ) -> Result<(), Refusal>
     ensures kept { Kept book.old book.new }
-    ensures run { Replayed (meaning C.Field C.Corrector M.Memory book.old) (meaning C.Field C.Corrector M.Memory book.new) calls.now answers.old answers.new result }
+    ensures run { Replayed (meaning C.Field C.Corrector.own M.Memory book.old) (meaning C.Field C.Corrector.own M.Memory book.new) calls.now answers.old answers.new result }
 {
     if answers.len() != calls.len() {
         return Err(Refusal::Length);
@@ -76,7 +76,7 @@ pub fn replay<C: Corrector, M: Memory>(
 }
 
 fn read_out<C: Corrector, M: Memory>(book: &Book<C, M>, row: u32) -> Result<Answer, Refusal>
-    ensures { ReadOut (meaning C.Field C.Corrector M.Memory book.now) row result }
+    ensures { ReadOut (meaning C.Field C.Corrector.own M.Memory book.now) row result }
 {
     let mut bytes = [0u8; 32];
     let size = (book.data_cells() as usize + 7) / 8;

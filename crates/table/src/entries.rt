@@ -17,8 +17,8 @@ impl<C: Corrector, M: Memory> Table<C, M> {
     /// The value of entry `i` in arcseconds, exactly. Refused with 4 where there is no such entry, 10 where its row has no code row near
     /// enough.
     pub fn get(&self, i: u32) -> Result<f64, Refusal>
-        ensures call { Got (meaning C.Field C.Corrector M.Memory self.now.book) self.now.entries i result }
-        ensures history { ReadLeads (meaning C.Field C.Corrector M.Memory self.now.book) i }
+        ensures call { Got (meaning C.Field C.Corrector.own M.Memory self.now.book) self.now.entries i result }
+        ensures history { ReadLeads (meaning C.Field C.Corrector.own M.Memory self.now.book) i }
     {
         let entry = self.entry(i)?;
         Ok(arcseconds(entry))
@@ -28,8 +28,8 @@ impl<C: Corrector, M: Memory> Table<C, M> {
     /// no such entry, 5 for a value that is not a number or outside −500 to 500, 10 where its row has no code row near enough.
     pub fn put(&mut self, i: u32, value: f64) -> Result<(), Refusal>
         ensures kept { Kept self.old.book self.new.book × (self.new.entries ≡ self.old.entries) }
-        ensures call { Put (meaning C.Field C.Corrector M.Memory self.old.book) (meaning C.Field C.Corrector M.Memory self.new.book) self.old.entries i value result }
-        ensures history { ReadLeads (meaning C.Field C.Corrector M.Memory self.old.book) i }
+        ensures call { Put (meaning C.Field C.Corrector.own M.Memory self.old.book) (meaning C.Field C.Corrector.own M.Memory self.new.book) self.old.entries i value result }
+        ensures history { ReadLeads (meaning C.Field C.Corrector.own M.Memory self.old.book) i }
     {
         let (row, index) = self.place(i)?; // before the value: the lowest refusal that applies is given
         let entry = entry_of(value)?;
@@ -43,8 +43,8 @@ impl<C: Corrector, M: Memory> Table<C, M> {
     /// The error at a worm angle in 65,536ths of a turn, in 1/64 arcsecond: between the entry at the angle and the next, a half going away
     /// from zero. Refused with 4 where there are no entries, 10 where a row of the two has no code row near enough.
     pub fn look_up(&self, angle: u16) -> Result<i16, Refusal>
-        ensures call { LookedUp (meaning C.Field C.Corrector M.Memory self.now.book) (entries_of (meaning C.Field C.Corrector M.Memory self.now.book) self.now.entries) angle result }
-        ensures history { ReadLeads (meaning C.Field C.Corrector M.Memory self.now.book) (angle_index angle (entries_of (meaning C.Field C.Corrector M.Memory self.now.book) self.now.entries)) × ReadLeads (meaning C.Field C.Corrector M.Memory self.now.book) (next_index (angle_index angle (entries_of (meaning C.Field C.Corrector M.Memory self.now.book) self.now.entries)) (entries_of (meaning C.Field C.Corrector M.Memory self.now.book) self.now.entries)) }
+        ensures call { LookedUp (meaning C.Field C.Corrector.own M.Memory self.now.book) (entries_of (meaning C.Field C.Corrector.own M.Memory self.now.book) self.now.entries) angle result }
+        ensures history { ReadLeads (meaning C.Field C.Corrector.own M.Memory self.now.book) (angle_index angle (entries_of (meaning C.Field C.Corrector.own M.Memory self.now.book) self.now.entries)) × ReadLeads (meaning C.Field C.Corrector.own M.Memory self.now.book) (next_index (angle_index angle (entries_of (meaning C.Field C.Corrector.own M.Memory self.now.book) self.now.entries)) (entries_of (meaning C.Field C.Corrector.own M.Memory self.now.book) self.now.entries)) }
     {
         let entries = self.entries() as u16;
         let position = locate(angle, entries);
@@ -55,7 +55,7 @@ impl<C: Corrector, M: Memory> Table<C, M> {
 
     /// Entry `i`, as a read of its row gives it.
     fn entry(&self, i: u32) -> Result<i16, Refusal>
-        ensures { EntryGot (meaning C.Field C.Corrector M.Memory self.now.book) self.now.entries i result }
+        ensures { EntryGot (meaning C.Field C.Corrector.own M.Memory self.now.book) self.now.entries i result }
     {
         let (row, index) = self.place(i)?;
         let mut buffer = [0u8; 32];

@@ -16,7 +16,7 @@ use refusal::Refusal;
 impl<C: Corrector, M: Memory> Table<C, M> {
     /// Whether a table of so many entries fits on a book: 1 to 1,024, and the rows have room for them. Refused with 4.
     pub fn check(book: &Book<C, M>, entries: u32) -> Result<(), Refusal>
-        ensures { Checked (EntriesFit (meaning C.Field C.Corrector M.Memory book.now) entries) Entry result }
+        ensures { Checked (EntriesFit (meaning C.Field C.Corrector.own M.Memory book.now) entries) Entry result }
     {
         if entries_fit(book, entries) {
             Ok(())
@@ -34,7 +34,7 @@ impl<C: Corrector, M: Memory> Table<C, M> {
 
     /// E, how many entries there are: none where their number does not fit.
     pub fn entries(&self) -> u32
-        ensures { (result ≡ entries_of (meaning C.Field C.Corrector M.Memory self.now.book) self.now.entries) × (result ≤ 1024) }
+        ensures { (result ≡ entries_of (meaning C.Field C.Corrector.own M.Memory self.now.book) self.now.entries) × (result ≤ 1024) }
     {
         if entries_fit(&self.book, self.entries) {
             self.entries
@@ -45,7 +45,7 @@ impl<C: Corrector, M: Memory> Table<C, M> {
 
     /// The row of entry `i`, and its index there. Refused with 4 where there is no such entry.
     pub fn place(&self, i: u32) -> Result<(u32, u32), Refusal>
-        ensures { Found (meaning C.Field C.Corrector M.Memory self.now.book) self.now.entries i result }
+        ensures { Found (meaning C.Field C.Corrector.own M.Memory self.now.book) self.now.entries i result }
     {
         if i >= self.entries() {
             return Err(Refusal::Entry);
@@ -72,13 +72,13 @@ impl<C: Corrector, M: Memory> Table<C, M> {
 
 /// e, how many entries a row holds: none where a row has fewer than 16 data cells.
 fn per_row<C: Corrector, M: Memory>(book: &Book<C, M>) -> u32
-    ensures { (result ≡ per_row (meaning C.Field C.Corrector M.Memory book.now)) × (result < 16) }
+    ensures { (result ≡ per_row (meaning C.Field C.Corrector.own M.Memory book.now)) × (result < 16) }
 {
     book.data_cells() as u32 / 16
 }
 
 fn entries_fit<C: Corrector, M: Memory>(book: &Book<C, M>, entries: u32) -> bool
-    ensures { result ≡ entries_test (meaning C.Field C.Corrector M.Memory book.now) entries }
+    ensures { result ≡ entries_test (meaning C.Field C.Corrector.own M.Memory book.now) entries }
 {
     entries >= 1 && entries <= 1024 && entries <= book.rows() * per_row(book)
 }

@@ -1,12 +1,12 @@
 -- A buffer unpacked: it says k cells exactly where it is a buffer for k bits, and then those that it shows.
-use Rattle.std.proofs.Common.{◌≡◌, ℕ, zero, suc, ◌+◌, ◌-◌, ◌*◌, ◌/◌, ◌<◌, ◌≤◌, Bool, true, false, cond, not, ◌&&◌, eqb, List, length, sym, refl, ap, ◌∙◌, subst, ⊎_elim, arith}
+use Rattle.std.proofs.Common.{◌≡◌, ℕ, zero, suc, ◌+◌, ◌-◌, ◌*◌, ◌/◌, ◌<◌, Bool, true, false, cond, not, List, length, sym, refl, ap, ◌∙◌, arith}
 use mathlib.Core.Option.{Option, none, some}
-use Rattle.std.proofs.lemmas.Bool.{eqb-true, eq-eqb, and_parts, and_from, not-true, cases_Bool, false≢true}
-use Rattle.bits.specs.Bits.{bit_at, Sized, Unused, Buffer}
+use Rattle.std.proofs.lemmas.Bool.{eqb-true, eq-eqb, and_parts, and_from, not-true}
+use Rattle.bits.specs.Bits.{bit_at, Buffer}
 use Rattle.galois.specs.Lists.{tabulate}
 use Rattle.galois.proofs.Tabulated.{length-tabulate}
 use Rattle.bch.specs.Buffers.{shown}
-use Rattle.tally.specs.Buffers.{unset, past_bits, unpacked}
+use Rattle.tally.specs.Buffers.{unset, unpacked}
 
 chosen : (h : Bool) (x d : List Bool) → cond h (some x) none ≡ some d → (h ≡ true) × (x ≡ d)
 chosen true x d e = (refl, cc)

@@ -1,16 +1,16 @@
 -- What each call does to the cells carries the promises.
-use Rattle.std.proofs.Common.{◌≡◌, ℕ, zero, suc, ◌+◌, ◌-◌, ◌*◌, ◌<◌, ◌≤◌, Bool, true, false, cond, not, eqb, leb, ◌≢◌, ◌⊎◌, List, [], ◌∷◌, ◌++◌, map, length, replicate, sym, refl, ap, ◌∙◌, subst, ap₂, ⊎_elim, zero-add, arith}
+use Rattle.std.proofs.Common.{◌≡◌, ℕ, zero, suc, ◌+◌, ◌*◌, ◌<◌, ◌≤◌, Bool, false, eqb, ◌⊎◌, List, [], ◌∷◌, length, replicate, sym, refl, ap, ◌∙◌, subst, ap₂, ⊎_elim, arith}
 use mathlib.Core.Option.{Option, none, some}
 use lib.Arith.{digits_lt}
 use Rattle.std.proofs.lemmas.Bool.{eq-eqb, ne_eqb, cases_eq, le-leb, lt-leb}
-use Rattle.memory.specs.Mem.{Layout, in_run, turned}
+use Rattle.memory.specs.Mem.{in_run, turned}
 use Rattle.galois.specs.Lists.{tabulate}
 use Rattle.galois.proofs.Tabulated.{length-tabulate, tabulate-cong}
-use Rattle.tally.specs.Rows.{hits, turned_by}
-use Rattle.tally.specs.Tally.{Setting, Call, write, read, mend, sweep, knock, Row, dataCellsOf, nearest, blank, afterWrite, afterMend, afterKnock, struck, step, after}
-use Rattle.tally.specs.Damage.{Lawful, Within, Near, mends, Spaced, Stands}
+use Rattle.tally.specs.Rows.{turned_by}
+use Rattle.tally.specs.Tally.{Setting, Call, write, mend, knock, Row, dataCellsOf, nearest, afterWrite, struck, after}
+use Rattle.tally.specs.Damage.{Lawful, Within, Near, Stands}
 use Rattle.tally.specs.Buffers.{unpacked}
-use Rattle.tally.specs.Promises.{is_none, row_of, Holds, Keeps, Survives, ReadPromise, MendPromise, SweepPromise, Only, Same, Carries, CallLaws}
+use Rattle.tally.specs.Promises.{row_of, Holds, Keeps, Survives, ReadPromise, MendPromise, Only, Same, CallLaws}
 use Rattle.tally.proofs.Laws.{damage_laws, looser, either}
 
 -- rows as lists of the first values of a function

@@ -1,10 +1,9 @@
 -- The codes of the fields are lawful: the test passes the code rows alone, and every k data cells have their code row.
-use Rattle.std.proofs.Common.{◌≡◌, ℕ, zero, suc, ◌+◌, ◌-◌, ◌*◌, ◌^◌, ◌<◌, ◌≤◌, Bool, true, false, cond, ◌&&◌, eqb, ltb, List, [], ◌∷◌, length, get_or, drop, replicate, sym, refl, ap, ◌∙◌, subst, ap₂, inl, inr, arith, get_or-drop}
+use Rattle.std.proofs.Common.{◌≡◌, ℕ, zero, suc, ◌+◌, ◌-◌, ◌*◌, ◌<◌, Bool, true, false, cond, ◌&&◌, eqb, ltb, List, [], ◌∷◌, length, get_or, drop, replicate, sym, refl, ap, ◌∙◌, subst, ap₂, inl, inr, arith, get_or-drop}
 use mathlib.Core.Option.{Option, none, some}
 use lib.ListN.{length-replicate, get_or-replicate}
 use Rattle.std.proofs.lemmas.Bool.{and_parts, and_from, eqb-true, eq-eqb, cases_eq, both_ways, lt-ltb, le-ltb}
 use Rattle.bits.specs.Bits.{bit_of}
-use Rattle.memory.specs.Mem.{Layout}
 use Rattle.galois.specs.Lists.{tabulate}
 use Rattle.galois.specs.Model.{FieldModel, FieldLaws, units}
 use Rattle.galois.specs.Rows.{Few, power_sum, cell_of, syndrome, CodeRow, data_cells, check_cells, data_of, unlike, distance, Systematic}
@@ -16,8 +15,7 @@ use Rattle.bch.specs.Steps.{coefficient, register}
 use Rattle.bch.proofs.CodeRows.{Packs, all_cells, coefficient-lt, one_row, register-code}
 use Rattle.bch.proofs.Packing.{push_bits}
 use Rattle.tally.specs.Rows.{every, first}
-use Rattle.tally.specs.Damage.{Lawful}
-use Rattle.tally.specs.Fields.{is_code, or_zeros, code_row_of, field_setting, FieldCode, FieldCodes}
+use Rattle.tally.specs.Fields.{is_code, or_zeros, code_row_of, FieldCode, FieldCodes}
 use Rattle.tally.proofs.Knocks.{distance_self}
 use Rattle.tally.proofs.Search.{first_found, first-none, every-long, every-has}
 

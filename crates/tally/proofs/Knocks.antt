@@ -1,5 +1,5 @@
 -- What a knock does to the distance of two rows.
-use Rattle.std.proofs.Common.{◌≡◌, ℕ, zero, suc, ◌+◌, ◌≤◌, Bool, true, false, cond, not, List, [], ◌∷◌, length, sym, refl, ap, ◌∙◌, arith}
+use Rattle.std.proofs.Common.{◌≡◌, ℕ, suc, ◌+◌, ◌≤◌, Bool, true, false, cond, List, [], ◌∷◌, length, refl, ap, arith}
 use Rattle.memory.specs.Mem.{turned}
 use Rattle.galois.specs.Rows.{unlike, distance}
 use Rattle.tally.specs.Rows.{turned_by, hits}

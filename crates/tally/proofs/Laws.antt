@@ -1,5 +1,5 @@
 -- The laws of damage.
-use Rattle.std.proofs.Common.{◌≡◌, ℕ, zero, suc, ◌+◌, ◌-◌, ◌*◌, ◌/◌, ◌%◌, ◌<◌, ◌≤◌, Bool, true, false, cond, eqb, leb, List, [], ◌∷◌, ◌++◌, length, replicate, sym, refl, ap, ◌∙◌, subst, ⊎_elim, mul_assoc, mul_comm, add-mul, lt_of_mul-lt-mul_right, div-add-mod', arith}
+use Rattle.std.proofs.Common.{◌≡◌, ℕ, zero, suc, ◌+◌, ◌-◌, ◌*◌, ◌/◌, ◌%◌, ◌<◌, ◌≤◌, Bool, true, false, cond, eqb, leb, List, [], ◌∷◌, ◌++◌, length, replicate, sym, refl, ap, ◌∙◌, subst, ⊎_elim, mul_assoc, lt_of_mul-lt-mul_right, div-add-mod', arith}
 use mathlib.Core.Option.{Option, none, some}
 use lib.Arith.{digits_lt}
 use lib.ListN.{length-replicate}
@@ -8,12 +8,11 @@ use Rattle.std.proofs.ByRecursion.{All-weaker}
 use Rattle.std.proofs.lemmas.List.{nil_from_length}
 use Rattle.std.proofs.lemmas.Bool.{eq-eqb, ne_eqb, cases_eq}
 use Rattle.std.proofs.lemmas.Nat.{mod_below, div_below}
-use Rattle.memory.specs.Mem.{Layout, in_run}
 use Rattle.memory.specs.Lines.{Interleaved}
 use Rattle.galois.specs.Rows.{distance}
-use Rattle.tally.specs.Rows.{turned_by, hits}
+use Rattle.tally.specs.Rows.{hits}
 use Rattle.tally.specs.Tally.{Setting, Call, write, read, mend, sweep, knock, Row, dataCellsOf, nearest, blank, afterWrite, afterMend, afterKnock, struck, step, after}
-use Rattle.tally.specs.Damage.{Lawful, Within, Near, mends, onto, pieces, knocks, OneOf, Spaced, Stands, DamageLaws}
+use Rattle.tally.specs.Damage.{Lawful, Within, Near, mends, onto, pieces, knocks, OneOf, Spaced, DamageLaws}
 use Rattle.tally.specs.Buffers.{unpacked}
 use Rattle.tally.proofs.Buffers.{unpacked-long}
 use Rattle.tally.proofs.Knocks.{distance_self, length-turned, distance-turned}

@@ -1,8 +1,7 @@
 -- What a book survives: laws of the tally, for every list of calls.
 use Rattle.std.specs.Prelude.{◌≡◌, ℕ, zero, suc, ◌+◌, ◌-◌, ◌*◌, ◌<◌, ◌≤◌, Bool, true, false, cond, List, [], ◌∷◌, ◌++◌, length, replicate, nat_le}
-use Rattle.std.proofs.Math.Option.{Option, none, some}
+use Rattle.std.proofs.Math.Option.{none, some}
 use Rattle.std.specs.List.{AllByRecursion as All}
-use Rattle.memory.specs.Mem.{Layout}
 use Rattle.memory.specs.Lines.{Interleaved}
 use Rattle.galois.specs.Rows.{distance}
 use Rattle.tally.specs.Tally.{Setting, Call, write, read, mend, sweep, knock, Row, dataCellsOf, nearest, after}

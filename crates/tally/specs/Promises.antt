@@ -1,12 +1,12 @@
 -- What the calls of a book promise of its cells and answers, whatever was called before.
 -- A book is a setting b with its cells now, `cell`: cell r * n + j is position j of row r.
-use Rattle.std.specs.Prelude.{◌≡◌, ℕ, zero, suc, ◌+◌, ◌-◌, ◌*◌, ◌<◌, ◌≤◌, Bool, true, false, cond, not, ◌≢◌, ◌⊎◌, List, [], ◌∷◌, ◌++◌}
+use Rattle.std.specs.Prelude.{◌≡◌, ℕ, ◌+◌, ◌-◌, ◌*◌, ◌<◌, ◌≤◌, Bool, true, false, ◌≢◌, ◌⊎◌, List, [], ◌∷◌, ◌++◌}
 use Rattle.std.proofs.Math.Option.{Option, none, some}
-use Rattle.memory.specs.Mem.{Layout, in_run, turned}
+use Rattle.memory.specs.Mem.{in_run, turned}
 use Rattle.memory.specs.Lines.{Interleaved}
 use Rattle.galois.specs.Lists.{tabulate}
 use Rattle.tally.specs.Rows.{hits}
-use Rattle.tally.specs.Tally.{Setting, Call, write, read, mend, sweep, knock, Row, dataCellsOf, nearest, after}
+use Rattle.tally.specs.Tally.{Setting, Call, write, read, mend, sweep, knock, dataCellsOf, nearest, after}
 use Rattle.tally.specs.Buffers.{unpacked}
 use Rattle.tally.specs.Damage.{Lawful, Within, Near, mends, Spaced}
 

@@ -1,4 +1,4 @@
-use Rattle.std.proofs.Common.{◌≡◌, ap, ◌∙◌, subst}
+use Rattle.std.proofs.Common.{ap, ◌∙◌, subst}
 use Rattle.memory.specs.Mem.{Mem}
 use Rattle.book.specs.Calls.{Blanked}
 use Rattle.book.specs.Meaning.{meaning}

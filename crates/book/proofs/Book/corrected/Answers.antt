@@ -1,12 +1,8 @@
-use Rattle.std.proofs.Common.{◌≡◌, ℕ, ◌+◌, ◌*◌, ◌<◌, ◌≤◌, Err, Result, sym, ap, ◌∙◌, subst, arith}
+use Rattle.std.proofs.Common.{ℕ, Err, Result, sym, ap, ◌∙◌, subst}
 use Rattle.std.proofs.lemmas.Result.{err_from_is_err_and}
 use Rattle.refusal.specs.declared.Refusal.{Refusal}
-use Rattle.bits.specs.Bits.{Sized, Buffer}
-use Rattle.bch.specs.Buffers.{shown}
-use Rattle.rows.specs.Laid.{run}
 use Rattle.book.specs.Meaning.{meaning}
-use Rattle.book.specs.Model.{BookModel, row_size}
-use Rattle.book.specs.Calls.{row_cells, Found}
+use Rattle.book.specs.Calls.{Found}
 use Rattle.book.proofs.Effective.{row_room}
 use Rattle.book.proofs.Correcting.{none_near, in_reach, past-reach, not_refused, gathered_row}
 use Rattle.book.proofs.Book.corrected.Goals as goal

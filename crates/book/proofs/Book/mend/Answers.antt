@@ -1,9 +1,8 @@
-use Rattle.std.proofs.Common.{◌≡◌, ℕ, ◌<◌, ◌≤◌, Ok, Err, Result, sym, refl, ap, ◌∙◌, subst, arith}
+use Rattle.std.proofs.Common.{ℕ, ◌<◌, Ok, Err, Result, sym, ap, ◌∙◌, subst, arith}
 use Rattle.std.proofs.lemmas.Result.{err_from_is_err_and}
 use Rattle.refusal.specs.declared.Refusal.{Refusal}
-use Rattle.refusal.specs.declared.Refusal.TheVariants.{Row, Length}
-use Rattle.bits.specs.Bits.{Sized}
-use Rattle.book.specs.Model.{BookModel, rows_of}
+use Rattle.refusal.specs.declared.Refusal.TheVariants.{Row}
+use Rattle.book.specs.Model.{rows_of}
 use Rattle.book.specs.Meaning.{meaning}
 use Rattle.book.specs.Promised.{MendCall}
 use Rattle.book.proofs.Correcting.{mended, not_mended, no_row_mend, as_was}

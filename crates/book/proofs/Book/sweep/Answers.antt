@@ -1,7 +1,6 @@
-use Rattle.std.proofs.Common.{◌≡◌, ℕ, ◌+◌, ◌*◌, ◌<◌, ◌≤◌, sym, refl, ap, ◌∙◌, subst, arith}
-use Rattle.memory.specs.Mem.{Mem}
+use Rattle.std.proofs.Common.{◌≡◌, ℕ, ◌+◌, ◌*◌, ◌<◌, ◌≤◌, sym, subst, arith}
 use Rattle.book.specs.Meaning.{meaning, Kept}
-use Rattle.book.specs.Model.{BookModel, rows_of}
+use Rattle.book.specs.Model.{rows_of}
 use Rattle.book.specs.declared.SweepCounts.{SweepCounts}
 use Rattle.book.proofs.Effective.{reach_within}
 use Rattle.book.proofs.Leading.{kept_figures, kept_on}

@@ -1,7 +1,5 @@
 use Rattle.std.proofs.Common.{◌*◌, ◌≤◌}
-use Rattle.memory.specs.Mem.{Mem}
 use Rattle.book.specs.Meaning.{meaning, Kept}
-use Rattle.book.specs.Model.{BookModel}
 use Rattle.book.proofs.Sweeping.{SweptTo}
 use Rattle.book.proofs.Book.sweep.Given as goal
 
