@@ -1,23 +1,20 @@
 -- One call after another.
-use Rattle.std.proofs.Common.{◌≡◌, ℕ, zero, suc, ◌+◌, ◌-◌, ◌*◌, ◌/◌, ◌<◌, ◌≤◌, Bool, true, false, ◌⊎◌, List, [], ◌∷◌, ◌++◌, length, get_or, take, set, is_ok, Ok, Err, Result, sym, refl, ap, ◌∙◌, subst, ap₂, inl, inr, ⊎_elim, arith}
-use mathlib.Core.Option.{Option, none, some}
+use Rattle.std.proofs.Common.{◌≡◌, ℕ, zero, suc, ◌+◌, ◌<◌, ◌≤◌, Bool, false, List, [], ◌∷◌, ◌++◌, length, get_or, take, set, is_ok, Ok, Err, Result, sym, refl, ap, ◌∙◌, subst, ⊎_elim, arith}
 use Rattle.std.proofs.lemmas.List.{take_more, take_more_set, take_all, take-append-le}
 use Rattle.refusal.specs.declared.Refusal.{Refusal}
 use Rattle.bits.specs.Bits.{Sized, Buffer}
-use Rattle.memory.specs.Mem.{Layout}
 use Rattle.tally.specs.Rows.{hits}
-use Rattle.tally.specs.Tally.{Setting, nearest, after}
+use Rattle.tally.specs.Tally.{Setting, nearest}
 use Rattle.tally.specs.Tally.{Call as TallyCall}
-use Rattle.tally.specs.Promises.{is_none, row_of, Survives}
+use Rattle.tally.specs.Promises.{is_none, row_of}
 use Rattle.book.specs.Model.{BookModel, setting, cell, rows_of, data_size}
 use Rattle.book.specs.Calls.{Led, Leads, answered}
-use Rattle.book.specs.Promised.{WriteCall, ReadCall, MendCall, SweepCall, KnockCall}
-use Rattle.book.specs.declared.SweepCounts.{SweepCounts}
+use Rattle.book.specs.Promised.{WriteCall, ReadCall, MendCall, KnockCall}
 use Rattle.book.proofs.Leading.{SameFigures, settings_same}
 use Rattle.history.specs.declared.Call.{Call}
 use Rattle.history.specs.declared.Call.TheVariants.{Write, Read, Mend, Sweep, Knock}
 use Rattle.history.specs.declared.Answer.{Answer}
-use Rattle.history.specs.declared.Answer.TheVariants.{Written, Mended, Swept, Knocked}
+use Rattle.history.specs.declared.Answer.TheVariants.{Written, Mended, Knocked}
 use Rattle.history.specs.declared.Answer.TheVariants.{Read as WasRead}
 use Rattle.history.specs.Runs.{room, call_of, mapped, data_in, ReadOut, Made, Promised, past, Ran, MadeAll}
 

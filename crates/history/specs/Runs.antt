@@ -4,9 +4,8 @@ use Rattle.std.proofs.Math.Option.{Option, none, some}
 use Rattle.refusal.specs.declared.Refusal.{Refusal}
 use Rattle.refusal.specs.declared.Refusal.TheVariants.{Length}
 use Rattle.bits.specs.Bits.{Sized, Buffer}
-use Rattle.memory.specs.Mem.{Layout}
 use Rattle.bch.specs.Buffers.{shown}
-use Rattle.tally.specs.Tally.{Setting, write, read, mend, sweep, knock, Row, after}
+use Rattle.tally.specs.Tally.{Setting, write, read, mend, sweep, knock, after}
 use Rattle.tally.specs.Tally.{Call as TallyCall}
 use Rattle.tally.specs.Damage.{Within}
 use Rattle.tally.specs.Promises.{Survives}

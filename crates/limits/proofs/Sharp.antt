@@ -1,17 +1,17 @@
 -- The worked rows.
-use Rattle.std.proofs.Common.{◌≡◌, ℕ, zero, suc, ◌+◌, ◌*◌, ◌<◌, ◌≤◌, Bool, true, false, cond, ◌⊎◌, List, [], ◌∷◌, length, replicate, Ok, Err, Result, sym, refl, ap, ◌∙◌, subst, ⊎_elim, arith}
+use Rattle.std.proofs.Common.{◌≡◌, ℕ, zero, suc, ◌+◌, ◌<◌, ◌≤◌, Bool, true, false, cond, List, [], ◌∷◌, Ok, Err, Result, sym, refl, ap, ◌∙◌, subst, ⊎_elim, arith}
 use Rattle.refusal.specs.declared.Refusal.{Refusal}
 use Rattle.refusal.specs.declared.Refusal.TheVariants.{NoCodeRow}
 use Rattle.bits.specs.Bits.{Sized}
 use Rattle.memory.specs.Mem.{Mem}
 use Rattle.galois.specs.House.{house, shift, product}
 use Rattle.galois.specs.Lists.{tabulate}
-use Rattle.galois.specs.Model.{FieldModel, FieldLaws, power}
+use Rattle.galois.specs.Model.{FieldLaws, power}
 use Rattle.galois.specs.Rows.{power_sum, syndrome, CodeRow, data_of, distance}
 use Rattle.galois.proofs.House.{house-laws}
 use Rattle.galois.proofs.Least.{rows_apart}
 use Rattle.bch.specs.Buffers.{shown}
-use Rattle.book.specs.Model.{BookModel, FiguresFit, figures_test, rows_of, reach_of, data_size}
+use Rattle.book.specs.Model.{rows_of, reach_of}
 use Rattle.book.specs.Calls.{row_cells, InReach, Looked}
 use Rattle.limits.specs.Sharp.{twice, book_of, SharpLimits}
 

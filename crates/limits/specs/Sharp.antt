@@ -1,12 +1,11 @@
 -- Worked rows that show the limits to be sharp, over the house field of 16 elements: rows of 15 cells.
-use Rattle.std.specs.Prelude.{◌≡◌, ℕ, ◌+◌, ◌*◌, ◌<◌, ◌≤◌, Bool, true, false, List, [], ◌∷◌, replicate, Ok, Err, Result}
+use Rattle.std.specs.Prelude.{◌≡◌, ℕ, ◌+◌, ◌*◌, ◌<◌, ◌≤◌, Bool, true, false, List, [], ◌∷◌, Ok, Err, Result}
 use Rattle.refusal.specs.declared.Refusal.{Refusal}
 use Rattle.refusal.specs.declared.Refusal.TheVariants.{NoCodeRow}
 use Rattle.bits.specs.Bits.{Sized}
 use Rattle.memory.specs.Mem.{Mem}
 use Rattle.galois.specs.House.{house}
 use Rattle.bch.specs.Buffers.{shown}
-use Rattle.tally.specs.Rows.{turned_by, hits}
 use Rattle.book.specs.Model.{BookModel, FiguresFit, rows_of}
 use Rattle.book.specs.Calls.{row_cells, Looked}
 

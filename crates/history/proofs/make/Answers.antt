@@ -1,4 +1,4 @@
-use Rattle.std.proofs.Common.{◌≡◌, Ok, Result, sym, refl, ap, ◌∙◌, subst}
+use Rattle.std.proofs.Common.{Ok, sym, refl, subst}
 use Rattle.book.specs.Meaning.{meaning}
 use Rattle.book.proofs.Leading.{kept_self}
 use Rattle.history.specs.declared.Call.{Call}

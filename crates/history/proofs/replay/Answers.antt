@@ -1,4 +1,4 @@
-use Rattle.std.proofs.Common.{◌≡◌, length, get_or, refl, arith}
+use Rattle.std.proofs.Common.{◌≡◌, length, refl, arith}
 use Rattle.book.specs.Meaning.{meaning}
 use Rattle.book.proofs.Leading.{kept_figures, kept_self, kept_on}
 use Rattle.history.proofs.Running.{ran_none, ran_more, ran_all}
