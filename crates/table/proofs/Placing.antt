@@ -1,8 +1,8 @@
 -- Where an entry stands, over plain values.
-use Rattle.std.proofs.Common.{◌≡◌, ℕ, ◌+◌, ◌*◌, ◌/◌, ◌%◌, ◌<◌, ◌≤◌, Bool, true, false, cond, ◌&&◌, leb, ◌⊎◌, sym, refl, ap, ◌∙◌, subst, inl, inr, ⊎_elim, mod-lt, div-lt_iff_lt-mul, mul-zero, div-add-mod', arith}
+use Rattle.std.proofs.Common.{◌≡◌, ℕ, ◌*◌, ◌/◌, ◌%◌, ◌<◌, ◌≤◌, Bool, true, false, cond, leb, sym, refl, ap, ◌∙◌, subst, ⊎_elim, mod-lt, div-lt_iff_lt-mul, mul-zero, div-add-mod', arith}
 use Rattle.std.proofs.lemmas.Bool.{and_parts, leb-true, cases_lt}
-use Rattle.book.specs.Model.{BookModel, rows_of, data_size}
-use Rattle.table.specs.Model.{per_row, EntriesFit, entries_test, entries_of, row_number, index_in}
+use Rattle.book.specs.Model.{BookModel, rows_of}
+use Rattle.table.specs.Model.{per_row, EntriesFit, entries_test, entries_of}
 use Rattle.table.specs.Calls.{Stands}
 
 module _ (b : BookModel) (E : ℕ) where

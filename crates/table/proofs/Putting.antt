@@ -1,16 +1,16 @@
 -- An entry put, over plain values.
-use Rattle.std.proofs.Common.{◌≡◌, ℕ, ◌+◌, ◌*◌, ◌/◌, ◌%◌, ◌<◌, ◌≤◌, Bool, true, false, ◌≢◌, ◌⊎◌, List, [], ◌∷◌, length, get_or, set, ℤ, Ok, Err, Result, sym, refl, ap, ◌∙◌, subst, ap₂, inl, inr, ⊎_elim, arith}
+use Rattle.std.proofs.Common.{◌≡◌, ℕ, ◌+◌, ◌*◌, ◌/◌, ◌%◌, ◌<◌, ◌≢◌, List, [], ◌∷◌, length, get_or, set, ℤ, Ok, Err, Result, refl, ap, ◌∙◌, subst, ap₂, inl, inr, ⊎_elim, arith}
 use lib.Ieee.{Float}
 use Rattle.std.proofs.lemmas.List.{length-set, get_or-set_same, get_or-set_other}
 use Rattle.refusal.specs.declared.Refusal.{Refusal}
-use Rattle.bits.specs.Bits.{bit_of, bit_at, Sized, Unused, Buffer}
+use Rattle.bits.specs.Bits.{bit_of, Sized, Buffer}
 use Rattle.tally.specs.Tally.{read}
 use Rattle.book.specs.Model.{BookModel, rows_of, data_size}
 use Rattle.book.specs.Promised.{ReadCall, WriteCall}
 use Rattle.entry.specs.TwosComplement.{bytes_of, number_of}
-use Rattle.entry.specs.Values.{entry_of, within_limits, Represents}
+use Rattle.entry.specs.Values.{entry_of, Represents}
 use Rattle.table.specs.Model.{per_row, entries_of, row_number, index_in, room, entry_at, changed}
-use Rattle.table.specs.Calls.{Stands, RowRead, EntryRead, Put}
+use Rattle.table.specs.Calls.{Stands, Put}
 use Rattle.table.proofs.Reading.{row_read, entry_lost}
 
 module _ (bytes : List ℕ) (x : ℕ) (z : ℤ) where

@@ -1,11 +1,11 @@
 -- An entry read, over plain values.
-use Rattle.std.proofs.Common.{◌≡◌, ℕ, ◌+◌, ◌*◌, ◌<◌, ◌≤◌, ◌⊎◌, List, ℤ, Ok, Err, Result, sym, refl, ap, ◌∙◌, subst, inl, inr, ⊎_elim, arith}
+use Rattle.std.proofs.Common.{◌≡◌, ℕ, ◌<◌, List, ℤ, Ok, Err, Result, ap, ◌∙◌, subst, inr, ⊎_elim}
 use Rattle.refusal.specs.declared.Refusal.{Refusal}
 use Rattle.refusal.specs.declared.Refusal.TheVariants.{NoCodeRow}
 use Rattle.bits.specs.Bits.{Sized}
-use Rattle.book.specs.Model.{BookModel, rows_of, data_size}
+use Rattle.book.specs.Model.{BookModel, data_size}
 use Rattle.book.specs.Promised.{ReadCall}
-use Rattle.table.specs.Model.{entries_of, row_number, index_in, entry_at}
+use Rattle.table.specs.Model.{entries_of, row_number, entry_at}
 use Rattle.table.specs.Calls.{Stands, RowRead, EntryRead, EntryGot}
 
 module _ (b : BookModel) (E i r x : ℕ) (l : i < entries_of b E) (at : Stands b i r x) (before bytes : List ℕ) (sized : Sized (data_size b) before) where

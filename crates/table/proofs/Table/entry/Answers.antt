@@ -1,4 +1,4 @@
-use Rattle.std.proofs.Common.{◌≡◌, ℤ, Err, Result, sym, ap, ◌∙◌, subst, w16, SFits, rules}
+use Rattle.std.proofs.Common.{ℤ, Err, Result, sym, ap, ◌∙◌, subst, w16, SFits, rules}
 use Rattle.std.proofs.lemmas.Result.{err_from_is_err_and}
 use Rattle.std.proofs.lemmas.Int.{to_z-of_z}
 use Rattle.refusal.specs.declared.Refusal.{Refusal}

@@ -1,4 +1,4 @@
-use Rattle.std.proofs.Common.{ℕ, ◌<◌, arith}
+use Rattle.std.proofs.Common.{◌<◌, arith}
 use Rattle.book.specs.Meaning.{meaning}
 use Rattle.table.specs.Model.{entries_of}
 use Rattle.table.proofs.Placing.{stands}
