@@ -1,15 +1,14 @@
 -- Lines that were run lead on every history.
-use Rattle.std.proofs.Common.{◌≡◌, ℕ, ◌⊎◌, List, [], ◌∷◌, sym, refl, subst, inl, inr}
+use Rattle.std.proofs.Common.{ℕ, List, [], ◌∷◌, sym, refl, subst, inl, inr}
 use Rattle.tally.specs.Tally.{Call}
 use Rattle.book.specs.Model.{BookModel}
 use Rattle.book.specs.Calls.{Led, Leads}
 use Rattle.book.specs.Promised.{WriteCall, ReadCall, MendCall, SweepCall, KnockCall}
 use Rattle.line.specs.declared.command.Command.{Command}
 use Rattle.line.specs.declared.command.Command.TheVariants.{Write, Read, Knock, Mend, Sweep}
-use Rattle.line.specs.Spelling.{Spells}
 use Rattle.answer.specs.declared.Answer.{Answer}
 use Rattle.driver.specs.Driven.{Made, Driven, Ran}
-use Rattle.driver.specs.History.{call_of, Adds, AddsAll, LeadsOn}
+use Rattle.driver.specs.History.{call_of, Adds, LeadsOn}
 use Rattle.driver.proofs.Telling.{finished, counted, filled, surveyed}
 
 module _ (b b' : BookModel) where

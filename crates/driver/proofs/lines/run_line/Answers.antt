@@ -1,4 +1,4 @@
-use Rattle.std.proofs.Common.{◌≡◌, ◌⊎◌, refl, ap, inl, inr}
+use Rattle.std.proofs.Common.{refl, ap, inl, inr}
 use Rattle.answer.specs.declared.Answer.TheVariants.{No}
 use Rattle.book.specs.Meaning.{meaning}
 use Rattle.book.proofs.Leading.{kept_self}
