@@ -1,7 +1,7 @@
 -- The lines of an input: cut at its first newline, joined again, and no others.
 use Rattle.std.proofs.Common.{◌≡◌, ℕ, ◌+◌, ◌<◌, ◌≤◌, Bool, true, false, cond, eqb, List, [], ◌∷◌, ◌++◌, length, take, drop, sym, refl, ap, ◌∙◌, subst, arith, ne_eqb, eqb-true}
 use borrow.Author.Tests.{eqb-false}
-use Rattle.std.specs.List.{AllByRecursion as All}
+use Rattle.std.specs.List.{AllByRecursion}
 use Rattle.std.proofs.lemmas.List.{take_all, drop_all}
 use Rattle.line.specs.Lines.{First, before, lines_of, Lacks, joined, ended, Cut}
 use Rattle.line.proofs.Cuts.{front-lacks, cut}
@@ -19,15 +19,15 @@ last_line (c ∷ d ∷ l) a h = rw (ne_eqb c 10 a.0) (ap (before c) (last_line (
 
 -- ---- no line holds a newline
 
-before-plain : (c : ℕ) (ls : List (List ℕ)) → (c ≡ 10 → ⊥) → All (Lacks 10) ls → All (Lacks 10) (before c ls)
+before-plain : (c : ℕ) (ls : List (List ℕ)) → (c ≡ 10 → ⊥) → AllByRecursion (Lacks 10) ls → AllByRecursion (Lacks 10) (before c ls)
 before-plain c [] n a = ((n, tt), tt)
 before-plain c (l ∷ ls) n a = ((n, a.0), a.1)
 
-plain_step : (c : ℕ) (ls : List (List ℕ)) → All (Lacks 10) ls → (b : Bool) → eqb c 10 ≡ b → All (Lacks 10) (cond b ([] ∷ ls) (before c ls))
+plain_step : (c : ℕ) (ls : List (List ℕ)) → AllByRecursion (Lacks 10) ls → (b : Bool) → eqb c 10 ≡ b → AllByRecursion (Lacks 10) (cond b ([] ∷ ls) (before c ls))
 plain_step c ls a true e = (tt, a)
 plain_step c ls a false e = before-plain c ls (eqb-false c 10 e) a
 
-plain : (s : List ℕ) → All (Lacks 10) (lines_of s)
+plain : (s : List ℕ) → AllByRecursion (Lacks 10) (lines_of s)
 plain [] = tt
 plain (c ∷ s) = plain_step c (lines_of s) (plain s) (eqb c 10) refl
 
@@ -60,7 +60,7 @@ whole (c ∷ d ∷ s) = whole_step c (lines_of (d ∷ s)) (some_line d (lines_of
 
 -- ---- and only they
 
-lines_joined : (ls : List (List ℕ)) → All (Lacks 10) ls → lines_of (joined ls) ≡ ls
+lines_joined : (ls : List (List ℕ)) → AllByRecursion (Lacks 10) ls → lines_of (joined ls) ≡ ls
 lines_joined [] a = refl
 lines_joined (l ∷ ls) a = first-line l (joined ls) a.0 ∙ ap (λ (x : List (List ℕ)). l ∷ x) (lines_joined ls a.1)
 

@@ -1,7 +1,7 @@
 -- Numerals: two digits that are read one by one, and the digits that a decimal number is printed in.
 use Rattle.std.proofs.Common.{◌≡◌, ℕ, ◌+◌, ◌-◌, ◌*◌, ◌/◌, ◌%◌, ◌^◌, ◌<◌, List, [], ◌∷◌, length, get_or, sym, ap, ◌∙◌, arith, lit<}
 use Rattle.std.specs.Fmt as W
-use Rattle.std.specs.List.{AllByRecursion as All}
+use Rattle.std.specs.List.{AllByRecursion}
 use Rattle.std.proofs.lemmas.Fmt.{decimal_by_steps, length-decimal-le, decimal_nonempty}
 use Rattle.std.proofs.ByRecursion.{All-push, All-weaker}
 use Rattle.std.proofs.lemmas.List.Sums.{fold_push}
@@ -26,7 +26,7 @@ no_space t n h = All-weaker Digit (λ c. c ≡ 32 → ⊥) (λ c d e. omega arit
 
 -- What is printed of a number is digits that write it.
 abbrev Writes : ℕ → List ℕ → Type 0
-Writes n t = All Digit t × (value t ≡ n)
+Writes n t = AllByRecursion Digit t × (value t ≡ n)
 
 writes : (n : ℕ) → n < 2 ^ 64 → Writes n (W.decimal n)
 writes = decimal_by_steps Writes

@@ -1,6 +1,6 @@
 -- The lines of an input. A line ends with a newline (10), the last one also with the input.
 use Rattle.std.specs.Prelude.{◌≡◌, ℕ, ◌<◌, ◌≤◌, cond, List, [], ◌∷◌, ◌++◌, length, ◌==◌, ◌≢◌, slice_index}
-use Rattle.std.specs.List.{AllByRecursion as All}
+use Rattle.std.specs.List.{AllByRecursion}
 
 -- A byte in front of the first line; it is a line of its own where there is none.
 abbrev pub before : ℕ → List (List ℕ) → List (List ℕ)
@@ -14,7 +14,7 @@ lines_of (c ∷ s) = cond (c == 10) ([] ∷ lines_of s) (before c (lines_of s))
 
 -- No byte of s is w.
 abbrev pub Lacks : ℕ → List ℕ → Type 0
-Lacks w s = All (λ c. c ≢ w) s
+Lacks w s = AllByRecursion (λ c. c ≢ w) s
 
 -- Each line with a newline behind it, one after another.
 abbrev pub joined : List (List ℕ) → List ℕ
@@ -29,9 +29,9 @@ ended (c ∷ d ∷ s) = c ∷ ended (d ∷ s)
 
 -- The law: no line holds a newline, the lines with their newlines are the input, and only these lines are so.
 pub record Cut (s : List ℕ) (ls : List (List ℕ)) : Type 0 where
-  pub plain : All (Lacks 10) ls
+  pub plain : AllByRecursion (Lacks 10) ls
   pub whole : joined ls ≡ ended s
-  pub only : (ms : List (List ℕ)) → All (Lacks 10) ms → joined ms ≡ ended s → ms ≡ ls
+  pub only : (ms : List (List ℕ)) → AllByRecursion (Lacks 10) ms → joined ms ≡ ended s → ms ≡ ls
 
 -- k is the index of the first w of s, or the length of s where there is none.
 abbrev pub First : ℕ → List ℕ → ℕ → Type 0

@@ -1,7 +1,7 @@
 -- Which lines spell a command. A line is the list of its bytes, without its newline.
 use Rattle.std.specs.Prelude.{◌≡◌, ℕ, ◌+◌, ◌-◌, ◌*◌, ◌<◌, ◌≤◌, List, ◌++◌, length, Ok, Err, codes, fold, Result, ◌≢◌}
 use Rattle.std.specs.Borrow.{Bor}
-use Rattle.std.specs.List.{AllByRecursion as All}
+use Rattle.std.specs.List.{AllByRecursion}
 use Rattle.refusal.specs.declared.Refusal.{Refusal}
 use Rattle.refusal.specs.declared.Refusal.TheVariants.{Line}
 use Rattle.line.specs.declared.command.Command.{Command}
@@ -18,7 +18,7 @@ value t = fold (λ n c. n * 10 + (c - 48)) 0 t
 
 -- t writes n: one to five decimal digits, leading zeros among them.
 abbrev pub Numeral : List ℕ → ℕ → Type 0
-Numeral t n = (1 ≤ length t) × (length t ≤ 5) × All Digit t × (n ≡ value t)
+Numeral t n = (1 ≤ length t) × (length t ≤ 5) × AllByRecursion Digit t × (n ≡ value t)
 
 -- c is the digit of x.
 abbrev pub HexDigit : ℕ → ℕ → Type 0

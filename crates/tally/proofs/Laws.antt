@@ -3,7 +3,7 @@ use Rattle.std.proofs.Common.{◌≡◌, ℕ, zero, suc, ◌+◌, ◌-◌, ◌*�
 use mathlib.Core.Option.{Option, none, some}
 use lib.Arith.{digits_lt}
 use lib.ListN.{length-replicate}
-use Rattle.std.specs.List.{AllByRecursion as All}
+use Rattle.std.specs.List.{AllByRecursion}
 use Rattle.std.proofs.ByRecursion.{All-weaker}
 use Rattle.std.proofs.lemmas.List.{nil_from_length}
 use Rattle.std.proofs.lemmas.Bool.{eq-eqb, ne_eqb, cases_eq}
@@ -33,7 +33,7 @@ module _ (b : Setting) (law : Lawful b) where
   pub record Kept (w : Row) : Type 0 where
     pub long : length w.cells ≡ n
     pub sized : length w.written ≡ k
-    pub near : All (λ x. x ≤ 2 * t - s) w.earlier → distance w.cells (encode w.written) ≤ w.newest
+    pub near : AllByRecursion (λ x. x ≤ 2 * t - s) w.earlier → distance w.cells (encode w.written) ≤ w.newest
 
   kept_blank : Kept (blank b)
   kept_blank = record {
@@ -136,7 +136,7 @@ module _ (b : Setting) (law : Lawful b) where
         go true o = (omega (arith, o.0), o.1.1)
         go false o = o
 
-    spaced_onto : (c : Call) (ps : List (List Call)) → All (λ p. OneOf m (knocks b p)) (onto c ps) → All (λ p. OneOf m (knocks b p)) ps
+    spaced_onto : (c : Call) (ps : List (List Call)) → AllByRecursion (λ p. OneOf m (knocks b p)) (onto c ps) → AllByRecursion (λ p. OneOf m (knocks b p)) ps
     spaced_onto c [] o = tt
     spaced_onto c (p ∷ ps) o = (fewer c p o.0, o.1)
 
@@ -158,7 +158,7 @@ module _ (b : Setting) (law : Lawful b) where
         ((omega (arith, gentle from len o.1.0, f (nil_from_length ls (omega (arith, o.0)))), v.1), λ e. absurd (let z : ◌≡◌ {A = ℕ} 0 1 = cc in omega arith))
     calm-struck from len ls w false o v f = (v, f)
 
-    calm_knocked : (from len : ℕ) (ps : List (List Call)) (w : Row) → All (λ p. OneOf m (knocks b p)) (onto (knock from len) ps) → Calm ps w → Calm (onto (knock from len) ps) (step b r (knock from len) w)
+    calm_knocked : (from len : ℕ) (ps : List (List Call)) (w : Row) → AllByRecursion (λ p. OneOf m (knocks b p)) (onto (knock from len) ps) → Calm ps w → Calm (onto (knock from len) ps) (step b r (knock from len) w)
     calm_knocked from len [] w o v = calm-struck from len [] w (leb (from + len) layout.span) o.0 v.0 (λ _. v.1)
     calm_knocked from len (p ∷ ps) w o v = calm-struck from len (knocks b p) w (leb (from + len) layout.span) o.0 v.0 v.1
 

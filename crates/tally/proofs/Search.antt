@@ -1,7 +1,7 @@
 -- The search through every row finds what there is.
 use Rattle.std.proofs.Common.{◌≡◌, ℕ, zero, suc, Bool, true, false, cond, ◌&&◌, leb, List, [], ◌∷◌, ◌++◌, map, length, refl, ap, subst, arith}
 use mathlib.Core.Option.{Option, none, some}
-use Rattle.std.specs.List.{AllByRecursion as All}
+use Rattle.std.specs.List.{AllByRecursion}
 use Rattle.std.proofs.ByRecursion.{All-append, All-map, All-weaker}
 use Rattle.std.proofs.lemmas.Bool.{and_parts, and_from, leb-true, le-leb, both_ways}
 use Rattle.galois.specs.Rows.{distance}
@@ -14,38 +14,38 @@ module _ {A : Type 0} (p : A → Bool) where
   found_step P x a rest here there true is e = let q : x ≡ a = cc in subst (λ y. P y × (p y ≡ true)) q (here, is)
   found_step P x a rest here there false is e = there e
 
-  pub first_found : (P : A → Type 0) (xs : List A) (a : A) → All P xs → first p xs ≡ some a → P a × (p a ≡ true)
+  pub first_found : (P : A → Type 0) (xs : List A) (a : A) → AllByRecursion P xs → first p xs ≡ some a → P a × (p a ≡ true)
   first_found P [] a all e = absurd (let z : ◌≡◌ {A = ℕ} 0 1 = cc in omega arith)
   first_found P (x ∷ xs) a all e = found_step P x a (first p xs) all.0 (first_found P xs a all.1) (p x) refl e
 
-  none_step : (x : A) (xs : List A) → (first p xs ≡ none → All (λ a. p a ≡ false) xs) → (h : Bool) → p x ≡ h → cond h (some x) (first p xs) ≡ none → All (λ a. p a ≡ false) (x ∷ xs)
+  none_step : (x : A) (xs : List A) → (first p xs ≡ none → AllByRecursion (λ a. p a ≡ false) xs) → (h : Bool) → p x ≡ h → cond h (some x) (first p xs) ≡ none → AllByRecursion (λ a. p a ≡ false) (x ∷ xs)
   none_step x xs there true is e = absurd (let z : ◌≡◌ {A = ℕ} 0 1 = cc in omega arith)
   none_step x xs there false is e = (is, there e)
 
-  pub first-none : (xs : List A) → first p xs ≡ none → All (λ a. p a ≡ false) xs
+  pub first-none : (xs : List A) → first p xs ≡ none → AllByRecursion (λ a. p a ≡ false) xs
   first-none [] e = tt
   first-none (x ∷ xs) e = none_step x xs (first-none xs) (p x) refl e
 
-pub every-long : (n : ℕ) → All (λ row. length row ≡ n) (every n)
+pub every-long : (n : ℕ) → AllByRecursion (λ row. length row ≡ n) (every n)
 every-long zero = (refl, tt)
 every-long (suc n) =
-    let more : (x : Bool) → All (λ row. length row ≡ suc n) (map (λ row. x ∷ row) (every n)) = λ x. All-map (λ row. length row ≡ suc n) (λ row. x ∷ row) (every n) (All-weaker _ (λ row. suc (length row) ≡ suc n) (λ row e. ap suc e) (every n) (every-long n)) in
+    let more : (x : Bool) → AllByRecursion (λ row. length row ≡ suc n) (map (λ row. x ∷ row) (every n)) = λ x. All-map (λ row. length row ≡ suc n) (λ row. x ∷ row) (every n) (All-weaker _ (λ row. suc (length row) ≡ suc n) (λ row e. ap suc e) (every n) (every-long n)) in
     All-append _ _ _ (more false) (more true)
 
 module _ {A : Type 0} where
-  all_left : (P : A → Type 0) (xs ys : List A) → All P (xs ++ ys) → All P xs
+  all_left : (P : A → Type 0) (xs ys : List A) → AllByRecursion P (xs ++ ys) → AllByRecursion P xs
   all_left P [] ys h = tt
   all_left P (x ∷ xs) ys h = (h.0, all_left P xs ys h.1)
 
-  all_right : (P : A → Type 0) (xs ys : List A) → All P (xs ++ ys) → All P ys
+  all_right : (P : A → Type 0) (xs ys : List A) → AllByRecursion P (xs ++ ys) → AllByRecursion P ys
   all_right P [] ys h = h
   all_right P (x ∷ xs) ys h = all_right P xs ys h.1
 
-  all_unmap : {B : Type 0} (f : B → A) (P : A → Type 0) (xs : List B) → All P (map f xs) → All (λ x. P (f x)) xs
+  all_unmap : {B : Type 0} (f : B → A) (P : A → Type 0) (xs : List B) → AllByRecursion P (map f xs) → AllByRecursion (λ x. P (f x)) xs
   all_unmap f P [] h = tt
   all_unmap f P (x ∷ xs) h = (h.0, all_unmap f P xs h.1)
 
-pub every-has : (P : List Bool → Type 0) (n : ℕ) → All P (every n) → (row : List Bool) → length row ≡ n → P row
+pub every-has : (P : List Bool → Type 0) (n : ℕ) → AllByRecursion P (every n) → (row : List Bool) → length row ≡ n → P row
 every-has P zero all [] e = all.0
 every-has P zero all (x ∷ row) e = absurd (omega arith)
 every-has P (suc n) all [] e = absurd (omega arith)

@@ -1,14 +1,14 @@
 -- What a book survives: laws of the tally, for every list of calls.
 use Rattle.std.specs.Prelude.{◌≡◌, ℕ, zero, suc, ◌+◌, ◌-◌, ◌*◌, ◌<◌, ◌≤◌, Bool, true, false, cond, List, [], ◌∷◌, ◌++◌, length, replicate, nat_le}
 use Rattle.std.proofs.Math.Option.{none, some}
-use Rattle.std.specs.List.{AllByRecursion as All}
+use Rattle.std.specs.List.{AllByRecursion}
 use Rattle.memory.specs.Lines.{Interleaved}
 use Rattle.galois.specs.Rows.{distance}
 use Rattle.tally.specs.Tally.{Setting, Call, write, read, mend, sweep, knock, Row, dataCellsOf, nearest, after}
 
 -- no stretch of a row since its last write has more than m strikes
 abbrev pub Within : ℕ → Row → Type 0
-Within m w = (w.newest ≤ m) × All (λ x. x ≤ m) w.earlier
+Within m w = (w.newest ≤ m) × AllByRecursion (λ x. x ≤ m) w.earlier
 
 -- the mends of the rows below m, from 0 up; the last one stands first
 abbrev pub mends : ℕ → List Call
@@ -30,7 +30,7 @@ pieces (knock from len ∷ h) = onto (knock from len) (pieces h)
 
 -- at most one length, of at most m
 abbrev pub OneOf : ℕ → List ℕ → Type 0
-OneOf m ls = (length ls ≤ 1) × All (λ l. l ≤ m) ls
+OneOf m ls = (length ls ≤ 1) × AllByRecursion (λ l. l ≤ m) ls
 
 module _ (b : Setting) where
   open b use {n, k, t, s, R, layout, code, encode}
@@ -64,7 +64,7 @@ module _ (b : Setting) where
 
   -- each piece between sweeps holds at most one accepted knock, of at most m cells
   abbrev pub Spaced : ℕ → List Call → Type 0
-  Spaced m h = All (λ p. OneOf m (knocks p)) (pieces h)
+  Spaced m h = AllByRecursion (λ p. OneOf m (knocks p)) (pieces h)
 
   -- The laws of damage
   pub record Stands : Type 0 where

@@ -1,6 +1,6 @@
 -- Each turn adds a digit; a byte that is none ends the search for a numeral.
 use Rattle.std.proofs.Common.{◌≡◌, ◌+◌, ◌-◌, ◌*◌, ◌^◌, get_or, take, sym, refl, ap, ◌∙◌, subst, arith, pow-add, rules}
-use Rattle.std.specs.List.{AllByRecursion as All}
+use Rattle.std.specs.List.{AllByRecursion}
 use Rattle.std.proofs.ByRecursion.{All-get_or, All-more}
 use Rattle.std.proofs.lemmas.List.{take_all}
 use Rattle.std.proofs.lemmas.List.Sums.{fold_more}
@@ -32,4 +32,4 @@ pub returns : goal.returns
 returns c =
     let s = c.args.field.now in
     let e : take c.loop-digit.digit-index s ≡ s = take_all c.loop-digit.digit-index s c.loop-digit-test.false in
-    (search rules, omega arith, subst (All Digit) e c.loop-digit.invariant.0, c.loop-digit.invariant.1 ∙ ap value e)
+    (search rules, omega arith, subst (AllByRecursion Digit) e c.loop-digit.invariant.0, c.loop-digit.invariant.1 ∙ ap value e)
