@@ -16,6 +16,23 @@ TOP = sys.argv[1] if len(sys.argv) > 1 else os.path.join(os.path.dirname(os.path
 LIBRARY = {"length", "mod", "pow", "cond", "xor", "cast", "bit_xor", "tabulate"}
 # what the library has in this spelling
 FIXED = {"bit-xor": "bit_xor", "bitXor": "bit_xor", "bit-of": "bit_of_lem", "interleaver-test": "interleaver_test_lem", "window-test": "window_test_lem"}
+# definitions that stand indented in a module, and what they are called in
+ALSO = {
+    "dataCellsOf": "data_cells_of",
+    "afterWrite": "after_write",
+    "afterMend": "after_mend",
+    "afterKnock": "after_knock",
+    "bitK": "bit_k",
+    "bitsK": "bits_k",
+    "rowValue": "row_value",
+    "rootAt": "root_at",
+    "pairsE": "pairs_e",
+    "cubicE": "cubic_e",
+    "powerSum-lt": "power_sum-lt",
+    "powerSum-value": "power_sum-value",
+    "tabulate-getD": "tabulate-get_or",
+    "get_d_tabulate": "get_or-tabulate",
+}
 # a lemma that has the library's name there
 ONLY_IN = {"HouseLinear.antt": {"bit-xor": "xor-bit"}}
 DECLARED = re.compile(r"^(?:(abbrev|unfoldable)\s+)?(?:pub\s+)?(?:(record|data)\s+)?([^\s:(){}]+)\s*[:({]")
@@ -75,11 +92,11 @@ def main():
         table[name] = respelled(name, heads)
     for name in fields:
         table[name] = "_".join(snake(part) for part in name.split("-"))
-    table.update(FIXED)
+    table.update(FIXED | ALSO)
     table = {old: new for old, new in table.items() if old != new}
     taken = {}
     for old, new in sorted(table.items()):
-        if (new in defined | stated | fields or new in taken) and old not in FIXED:
+        if (new in defined | stated | fields or new in taken) and old not in FIXED | ALSO:
             print("falls together:", old, new, taken.get(new, ""))
         taken[new] = old
     dotted = {old for old in table if old in fields}

@@ -14,56 +14,56 @@ use Rattle.bch.specs.Steps.{coefficient}
 
 module _ (F : FieldModel) (l : FieldLaws F) where
   -- a cell as an element
-  abbrev pub bitK : Bool → Element F
-  bitK true = (ops F l).e
-  bitK false = (ops F l).o
+  abbrev pub bit_k : Bool → Element F
+  bit_k true = (ops F l).e
+  bit_k false = (ops F l).o
 
-  pub bit_k_square : (b : Bool) → (ops F l).mul (bitK b) (bitK b) ≡ bitK b
+  pub bit_k_square : (b : Bool) → (ops F l).mul (bit_k b) (bit_k b) ≡ bit_k b
   bit_k_square true = one_mul (ring2 F l) (ops F l).e
   bit_k_square false = mul_zero (ring2 F l) (ops F l).o
 
-  pub bit_k_xor : (a b : Bool) → bitK (xor a b) ≡ (ops F l).add (bitK a) (bitK b)
+  pub bit_k_xor : (a b : Bool) → bit_k (xor a b) ≡ (ops F l).add (bit_k a) (bit_k b)
   bit_k_xor true true = sym ((ring2 F l).add_self (ops F l).e)
   bit_k_xor true false = sym ((ring2 F l).add_zero (ops F l).e)
-  bit_k_xor false b = sym (zero_add (ring2 F l) (bitK b))
+  bit_k_xor false b = sym (zero_add (ring2 F l) (bit_k b))
 
-  pub bit_k_cond : (a b : Bool) → bitK (cond a b false) ≡ (ops F l).mul (bitK a) (bitK b)
-  bit_k_cond true b = sym (one_mul (ring2 F l) (bitK b))
-  bit_k_cond false b = sym (zero_mul (ring2 F l) (bitK b))
+  pub bit_k_cond : (a b : Bool) → bit_k (cond a b false) ≡ (ops F l).mul (bit_k a) (bit_k b)
+  bit_k_cond true b = sym (one_mul (ring2 F l) (bit_k b))
+  bit_k_cond false b = sym (zero_mul (ring2 F l) (bit_k b))
 
   -- cells are told apart as elements
-  pub bit_k_once : (a b : Bool) → bitK a ≡ bitK b → a ≡ b
+  pub bit_k_once : (a b : Bool) → bit_k a ≡ bit_k b → a ≡ b
   bit_k_once true true e = refl
   bit_k_once true false e = let z : ◌≡◌ {A = ℕ} 1 0 = number F l e in absurd (omega arith)
   bit_k_once false true e = let z : ◌≡◌ {A = ℕ} 0 1 = number F l e in absurd (omega arith)
   bit_k_once false false e = refl
 
   -- an element that is 0 or 1 is the cell of its number
-  pub bit_k_of : (x : Element F) → (x ≡ (ops F l).o) ⊎ (x ≡ (ops F l).e) → bitK (eqb x.0 1) ≡ x
-  bit_k_of x h = elim h [ inl p ↦ ap (λ (y : Element F). bitK (eqb y.0 1)) p ∙ sym p | inr p ↦ ap (λ (y : Element F). bitK (eqb y.0 1)) p ∙ sym p ]
+  pub bit_k_of : (x : Element F) → (x ≡ (ops F l).o) ⊎ (x ≡ (ops F l).e) → bit_k (eqb x.0 1) ≡ x
+  bit_k_of x h = elim h [ inl p ↦ ap (λ (y : Element F). bit_k (eqb y.0 1)) p ∙ sym p | inr p ↦ ap (λ (y : Element F). bit_k (eqb y.0 1)) p ∙ sym p ]
 
-  scaled : (b : Bool) (x : Element F) → ((ops F l).mul (bitK b) x).0 ≡ cond b x.0 0
+  scaled : (b : Bool) (x : Element F) → ((ops F l).mul (bit_k b) x).0 ≡ cond b x.0 0
   scaled true x = number F l (one_mul (ring2 F l) x)
   scaled false x = number F l (zero_mul (ring2 F l) x)
 
   -- the value of a row's polynomial
-  abbrev pub rowValue : (ℕ → Bool) → ℕ → Element F → Element F
-  rowValue c n x = value (ops F l) (λ p. bitK (c p)) n x
+  abbrev pub row_value : (ℕ → Bool) → ℕ → Element F → Element F
+  row_value c n x = value (ops F l) (λ p. bit_k (c p)) n x
 
   -- the power sum S_i is the value at alpha ^ i
-  pub powerSum-value : (i : ℕ) (c : ℕ → Bool) (n : ℕ) → (rowValue c n (pow (ops F l) (alpha F l) i)).0 ≡ power_sum F i c n
+  pub power_sum-value : (i : ℕ) (c : ℕ → Bool) (n : ℕ) → (row_value c n (pow (ops F l) (alpha F l) i)).0 ≡ power_sum F i c n
   unfolding value power_sum
-  powerSum-value i c zero = refl
-  powerSum-value i c (suc n) =
-      ap₂ F.add (powerSum-value i c n)
+  power_sum-value i c zero = refl
+  power_sum-value i c (suc n) =
+      ap₂ F.add (power_sum-value i c n)
       (scaled (c n) (pow (ops F l) (pow (ops F l) (alpha F l) i) n)
       ∙ ap (λ x. cond (c n) x 0) (number F l (sym (pow-mul (ring2 F l) (alpha F l) i n)) ∙ pow-power F l (i * n)))
 
-  abbrev pub rootAt : ℕ → Element F
-  rootAt = root (field2 F l) (alpha F l) (units F) (turn F l) (once F l)
+  abbrev pub root_at : ℕ → Element F
+  root_at = root (field2 F l) (alpha F l) (units F) (turn F l) (once F l)
 
   -- the product of the factors, at numbers
-  pub generated-number : (d i : ℕ) → (generated (ops F l) rootAt d i).0 ≡ coefficient F d i
+  pub generated-number : (d i : ℕ) → (generated (ops F l) root_at d i).0 ≡ coefficient F d i
   unfolding generated
   generated-number zero zero = refl
   generated-number zero (suc i) = refl

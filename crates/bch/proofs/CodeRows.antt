@@ -12,8 +12,8 @@ use Rattle.galois.proofs.Generators.{generator_bit, generator-low, starts_vanish
 use Rattle.galois.proofs.Least.{Code}
 use Rattle.galois.proofs.Lift.{same, ops, ring2, field2, number, alpha, turn, once}
 use Rattle.bch.specs.Steps.{coefficient, register}
-use Rattle.bch.proofs.Cells.{bitK, bit_k_square, bit_k_once, bit_k_of, rowValue, powerSum-value, rootAt, generated-number}
-use Rattle.bch.proofs.Registers.{bitsK, register-value}
+use Rattle.bch.proofs.Cells.{bit_k, bit_k_square, bit_k_once, bit_k_of, row_value, power_sum-value, root_at, generated-number}
+use Rattle.bch.proofs.Registers.{bits_k, register-value}
 
 -- g's bits are the coefficients of the product of the factors
 abbrev pub Packs : FieldModel → ℕ → ℕ → Type 0
@@ -32,7 +32,7 @@ module _ (F : FieldModel) (l : FieldLaws F) (t : ℕ) (few : Few t) where
   pub all_cells : r + k ≡ units F
   all_cells = let h = is_fine.short in let p = is_fine.some in omega arith
 
-  pub coefficient-bit : (i : ℕ) → (generated (ops F l) (rootAt F l) r i ≡ (ops F l).o) ⊎ (generated (ops F l) (rootAt F l) r i ≡ (ops F l).e)
+  pub coefficient-bit : (i : ℕ) → (generated (ops F l) (root_at F l) r i ≡ (ops F l).o) ⊎ (generated (ops F l) (root_at F l) r i ≡ (ops F l).e)
   coefficient-bit = generator_bit (field2 F l) (alpha F l) (units F) (turn F l) (once F l) t r is_fine
 
   pub coefficient-lt : (i : ℕ) → coefficient F r i < 2
@@ -43,55 +43,55 @@ module _ (F : FieldModel) (l : FieldLaws F) (t : ℕ) (few : Few t) where
       ]
 
   -- the coefficient as a cell, and back as an element
-  pub bit_k_coefficient : (i : ℕ) → bitK F l (eqb (coefficient F r i) 1) ≡ generated (ops F l) (rootAt F l) r i
+  pub bit_k_coefficient : (i : ℕ) → bit_k F l (eqb (coefficient F r i) 1) ≡ generated (ops F l) (root_at F l) r i
   bit_k_coefficient i =
-      ap (λ y. bitK F l (eqb y 1)) (sym (generated-number F l r i)) ∙ bit_k_of F l (generated (ops F l) (rootAt F l) r i) (coefficient-bit i)
+      ap (λ y. bit_k F l (eqb y 1)) (sym (generated-number F l r i)) ∙ bit_k_of F l (generated (ops F l) (root_at F l) r i) (coefficient-bit i)
 
-  low : (g : ℕ) → Packs F t g → (d : ℕ) → d < r → value (ops F l) (bitsK F l g) r (rootAt F l d) ≡ pow (ops F l) (rootAt F l d) r
+  low : (g : ℕ) → Packs F t g → (d : ℕ) → d < r → value (ops F l) (bits_k F l g) r (root_at F l d) ≡ pow (ops F l) (root_at F l d) r
   low g G d h =
-      value-cong (ring2 F l) (bitsK F l g) (generated (ops F l) (rootAt F l) r) r (rootAt F l d) (λ i lt. ap (bitK F l) (G i (omega arith)) ∙ bit_k_coefficient i)
+      value-cong (ring2 F l) (bits_k F l g) (generated (ops F l) (root_at F l) r) r (root_at F l d) (λ i lt. ap (bit_k F l) (G i (omega arith)) ∙ bit_k_coefficient i)
       ∙ generator-low (field2 F l) (alpha F l) (units F) (turn F l) (once F l) t r is_fine d h
 
   -- a row is a code row where it vanishes at every root
-  pub to_code : (c : ℕ → Bool) → ((d : ℕ) → d < r → rowValue F l c (r + k) (rootAt F l d) ≡ (ops F l).o) → Code F t c
+  pub to_code : (c : ℕ → Bool) → ((d : ℕ) → d < r → row_value F l c (r + k) (root_at F l d) ≡ (ops F l).o) → Code F t c
   to_code c h i lt =
-      sym (powerSum-value F l (suc (i + i)) c (units F))
-      ∙ ap (λ n. (rowValue F l c n (pow (ops F l) (alpha F l) (suc (i + i)))).0) (sym all_cells)
-      ∙ number F l (starts_vanish (field2 F l) (alpha F l) (units F) (turn F l) (once F l) t r is_fine (λ p. bitK F l (c p)) (r + k) h i lt)
+      sym (power_sum-value F l (suc (i + i)) c (units F))
+      ∙ ap (λ n. (row_value F l c n (pow (ops F l) (alpha F l) (suc (i + i)))).0) (sym all_cells)
+      ∙ number F l (starts_vanish (field2 F l) (alpha F l) (units F) (turn F l) (once F l) t r is_fine (λ p. bit_k F l (c p)) (r + k) h i lt)
 
-  pub from_code : (c : ℕ → Bool) → Code F t c → (i : ℕ) → i < t → rowValue F l c (r + k) (pow (ops F l) (alpha F l) (suc (i + i))) ≡ (ops F l).o
+  pub from_code : (c : ℕ → Bool) → Code F t c → (i : ℕ) → i < t → row_value F l c (r + k) (pow (ops F l) (alpha F l) (suc (i + i))) ≡ (ops F l).o
   from_code c h i lt =
-      same F _ _ (ap (λ n. (rowValue F l c n (pow (ops F l) (alpha F l) (suc (i + i)))).0) all_cells ∙ powerSum-value F l (suc (i + i)) c (units F) ∙ h i lt)
+      same F _ _ (ap (λ n. (row_value F l c n (pow (ops F l) (alpha F l) (suc (i + i)))).0) all_cells ∙ power_sum-value F l (suc (i + i)) c (units F) ∙ h i lt)
 
   -- two code rows with the same data are one
   pub one_row : (c d : ℕ → Bool) → Code F t c → Code F t d → ((j : ℕ) → j < k → c (r + j) ≡ d (r + j)) → (j : ℕ) → j < units F → c j ≡ d j
   one_row c d cc cd same_data j lt =
       bit_k_once F l (c j) (d j)
-      (only_one (field2 F l) (alpha F l) (units F) (turn F l) (once F l) t r is_fine (λ p. bitK F l (c p)) (λ p. bitK F l (d p)) k
+      (only_one (field2 F l) (alpha F l) (units F) (turn F l) (once F l) t r is_fine (λ p. bit_k F l (c p)) (λ p. bit_k F l (d p)) k
       (λ i _. bit_k_square F l (c i)) (λ i _. bit_k_square F l (d i))
-      (λ i ge u. let z : r + (i - r) ≡ i = omega arith in ap (λ n. bitK F l (c n)) (sym z) ∙ ap (bitK F l) (same_data (i - r) (omega arith)) ∙ ap (λ n. bitK F l (d n)) z)
+      (λ i ge u. let z : r + (i - r) ≡ i = omega arith in ap (λ n. bit_k F l (c n)) (sym z) ∙ ap (bit_k F l) (same_data (i - r) (omega arith)) ∙ ap (λ n. bit_k F l (d n)) z)
       (from_code c cc) (from_code d cd) j (let z = all_cells in omega arith))
 
   -- the register's bits below the data make a code row
   module _ (g : ℕ) (G : Packs F t g) (given row : ℕ → Bool)
       (below : (j : ℕ) → j < r → row j ≡ bit_of (register g r given 0 k) j)
       (above : (j : ℕ) → j < k → row (r + j) ≡ given j) where
-    vanish : (d : ℕ) → d < r → rowValue F l row (r + k) (rootAt F l d) ≡ (ops F l).o
+    vanish : (d : ℕ) → d < r → row_value F l row (r + k) (root_at F l d) ≡ (ops F l).o
     vanish d h =
         let R = ring2 F l in
-        let b = rootAt F l d in
+        let b = root_at F l d in
         let p = pow (ops F l) b r in
-        let v = rowValue F l given k b in
+        let v = row_value F l given k b in
         let pos = is_fine.some in
         let z : suc (r - 1) ≡ r = omega arith in
-        let reg : value (ops F l) (bitsK F l (register g r given 0 k)) r b ≡ (ops F l).mul p (value (ops F l) (λ i. bitK F l (given (0 + i))) k b) =
-        subst (λ n. value (ops F l) (bitsK F l (register g n given 0 k)) n b ≡ (ops F l).mul (pow (ops F l) b n) (value (ops F l) (λ i. bitK F l (given (0 + i))) k b)) z
-        (register-value F l g (r - 1) given b (subst (λ n. value (ops F l) (bitsK F l g) n b ≡ pow (ops F l) b n) (sym z) (low g G d h)) k 0) in
-        value-split R (λ p. bitK F l (row p)) r k b
+        let reg : value (ops F l) (bits_k F l (register g r given 0 k)) r b ≡ (ops F l).mul p (value (ops F l) (λ i. bit_k F l (given (0 + i))) k b) =
+        subst (λ n. value (ops F l) (bits_k F l (register g n given 0 k)) n b ≡ (ops F l).mul (pow (ops F l) b n) (value (ops F l) (λ i. bit_k F l (given (0 + i))) k b)) z
+        (register-value F l g (r - 1) given b (subst (λ n. value (ops F l) (bits_k F l g) n b ≡ pow (ops F l) b n) (sym z) (low g G d h)) k 0) in
+        value-split R (λ p. bit_k F l (row p)) r k b
         ∙ ap₂ (λ y w. (ops F l).add y ((ops F l).mul p w))
-        (value-cong R (λ p. bitK F l (row p)) (bitsK F l (register g r given 0 k)) r b (λ i lt. ap (bitK F l) (below i lt))
-        ∙ reg ∙ ap ((ops F l).mul p) (value-cong R (λ i. bitK F l (given (0 + i))) (λ i. bitK F l (given i)) k b (λ i _. ap (λ n. bitK F l (given n)) (omega arith))))
-        (value-cong R (λ i. bitK F l (row (r + i))) (λ i. bitK F l (given i)) k b (λ i lt. ap (bitK F l) (above i lt)))
+        (value-cong R (λ p. bit_k F l (row p)) (bits_k F l (register g r given 0 k)) r b (λ i lt. ap (bit_k F l) (below i lt))
+        ∙ reg ∙ ap ((ops F l).mul p) (value-cong R (λ i. bit_k F l (given (0 + i))) (λ i. bit_k F l (given i)) k b (λ i _. ap (λ n. bit_k F l (given n)) (omega arith))))
+        (value-cong R (λ i. bit_k F l (row (r + i))) (λ i. bit_k F l (given i)) k b (λ i lt. ap (bit_k F l) (above i lt)))
         ∙ R.add_self ((ops F l).mul p v)
 
     pub register-code : Code F t row

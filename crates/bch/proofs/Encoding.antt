@@ -9,7 +9,7 @@ use Rattle.galois.specs.Model.{FieldModel, FieldLaws, units}
 use Rattle.galois.specs.Rows.{Few, power_sum, cell_of, CodeRow, check_cells, data_cells, Systematic}
 use Rattle.galois.proofs.Least.{Code, code_cells}
 use Rattle.galois.proofs.PowerSums.{power_sum-cong}
-use Rattle.galois.proofs.Tabulated.{length-tabulate, get_d_tabulate, tabulate-cong, drop-tabulate, same_list}
+use Rattle.galois.proofs.Tabulated.{length-tabulate, get_or-tabulate, tabulate-cong, drop-tabulate, same_list}
 use Rattle.bch.specs.Buffers.{shown}
 use Rattle.bch.specs.Published.{shifted, IsGenerator, ByDivision}
 use Rattle.bch.specs.Steps.{register, laid}
@@ -18,7 +18,7 @@ use Rattle.bch.proofs.Published.{g, generates, code_multiple, xor_self, shifted-
 
 -- what a list of cells says at each position is what its function says
 pub cell-shown : (n : ℕ) (buffer : List ℕ) (j : ℕ) → j < n → cell_of (shown n buffer) j ≡ bit_at 8 buffer j
-cell-shown n buffer j h = get_d_tabulate (bit_at 8 buffer) n false j h
+cell-shown n buffer j h = get_or-tabulate (bit_at 8 buffer) n false j h
 
 -- a code row as a list, from its function
 pub shown-code : (F : FieldModel) (t : ℕ) (buffer : List ℕ) → Code F t (bit_at 8 buffer) → CodeRow F t (shown (units F) buffer)
@@ -90,7 +90,7 @@ module _ (F : FieldModel) (l : FieldLaws F) (t : ℕ) (few : Few t) where
           same_list other (shown n row) false (co.cells ∙ sym (length-tabulate (bit_at 8 row) n))
           (λ j lt. let h : j < n = subst (λ m. j < m) co.cells lt in
           one_row F l t few (cell_of other) (bit_at 8 row) (code_cells F t other co) code
-          (λ i u. sym (get_or-drop r other i false) ∙ ap (λ d. get_or d i false) eq ∙ get_d_tabulate (bit_at 8 given) k false i u ∙ sym (above i u)) j h
+          (λ i u. sym (get_or-drop r other i false) ∙ ap (λ d. get_or d i false) eq ∙ get_or-tabulate (bit_at 8 given) k false i u ∙ sym (above i u)) j h
           ∙ sym (cell-shown n row j h));
     }
 

@@ -11,7 +11,7 @@ use Rattle.galois.proofs.Generators.{pow-double}
 use Rattle.galois.proofs.Laws.{power-lt, power-add}
 use Rattle.galois.proofs.Lift.{ops, field2, number, alpha, turn, once, pow-power}
 use Rattle.bch.specs.Steps.{coefficient}
-use Rattle.bch.proofs.Cells.{rootAt, generated-number}
+use Rattle.bch.proofs.Cells.{root_at, generated-number}
 use Rattle.bch.proofs.CodeRows.{is_fine}
 use Rattle.bch.proofs.Counts.{units_lt}
 
@@ -54,7 +54,7 @@ module _ (F : FieldModel) (l : FieldLaws F) where
 
   pub coefficient-lt : (d i : ℕ) → coefficient F d i < size F
   coefficient-lt d i =
-      subst (λ z. z < size F) (generated-number F l d i) (generated (ops F l) (rootAt F l) d i).1
+      subst (λ z. z < size F) (generated-number F l d i) (generated (ops F l) (root_at F l) d i).1
 
 -- a turn of the walk over the exponents
 pub walk-wraps : (n d : ℕ) → (2 * (walk n d).here) % n ≡ (walk n d).first

@@ -13,7 +13,7 @@ use Rattle.galois.proofs.Least.{Code}
 use Rattle.galois.proofs.Lift.{Element, same, ops, ring2, field2, number, alpha, turn, once}
 use Rattle.bch.specs.Published.{shifted, product, IsGenerator}
 use Rattle.bch.specs.Steps.{coefficient}
-use Rattle.bch.proofs.Cells.{bitK, bit_k_square, bit_k_xor, bit_k_cond, bit_k_once, rowValue, powerSum-value, rootAt, generated-number}
+use Rattle.bch.proofs.Cells.{bit_k, bit_k_square, bit_k_xor, bit_k_cond, bit_k_once, row_value, power_sum-value, root_at, generated-number}
 use Rattle.bch.proofs.CodeRows.{is_fine, bit_k_coefficient, from_code}
 
 pub xor_self : (b : Bool) → xor b b ≡ false
@@ -89,44 +89,44 @@ module _ (F : FieldModel) (l : FieldLaws F) (t : ℕ) (few : Few t) where
   g i = eqb (coefficient F r i) 1
 
   abbrev at : (ℕ → Bool) → ℕ → Element F → Element F
-  at c n x = rowValue F l c n x
+  at c n x = row_value F l c n x
 
   abbrev b : ℕ → Element F
-  b d = rootAt F l d
+  b d = root_at F l d
 
   g_top : g r ≡ true
-  g_top = ap (λ y. eqb y 1) (sym (generated-number F l r r) ∙ number F l (top (ring2 F l) (rootAt F l) r))
+  g_top = ap (λ y. eqb y 1) (sym (generated-number F l r r) ∙ number F l (top (ring2 F l) (root_at F l) r))
 
   g_past : (i : ℕ) → r < i → g i ≡ false
-  g_past i h = ap (λ y. eqb y 1) (sym (generated-number F l r i) ∙ number F l (above (ring2 F l) (rootAt F l) r i h))
+  g_past i h = ap (λ y. eqb y 1) (sym (generated-number F l r i) ∙ number F l (above (ring2 F l) (root_at F l) r i h))
 
   g_root : (d : ℕ) → d < r → at g (suc r) (b d) ≡ (ops F l).o
   g_root d h =
-      value-cong (ring2 F l) (λ p. bitK F l (g p)) (generated (ops F l) (rootAt F l) r) (suc r) (b d) (λ i _. bit_k_coefficient F l t few i)
-      ∙ roots (ring2 F l) (rootAt F l) r d h
+      value-cong (ring2 F l) (λ p. bit_k F l (g p)) (generated (ops F l) (root_at F l) r) (suc r) (b d) (λ i _. bit_k_coefficient F l t few i)
+      ∙ roots (ring2 F l) (root_at F l) r d h
 
   -- x ^ k times g vanishes where g does
   shifted-root : (k s d : ℕ) → d < r → at (shifted k g) (k + (suc r + s)) (b d) ≡ (ops F l).o
   shifted-root k s d h =
       let R = ring2 F l in
       let p = pow (ops F l) (b d) k in
-      value-split R (λ i. bitK F l (shifted k g i)) k (suc r + s) (b d)
+      value-split R (λ i. bit_k F l (shifted k g i)) k (suc r + s) (b d)
       ∙ ap₂ (λ y z. (ops F l).add y ((ops F l).mul p z))
-      (value_none R (λ i. bitK F l (shifted k g i)) k (b d) (λ i lt. ap (bitK F l) (shifted-low k g i lt)))
-      (value-cong R (λ i. bitK F l (shifted k g (k + i))) (λ i. bitK F l (g i)) (suc r + s) (b d) (λ i _. ap (bitK F l) (shifted-from k g (k + i) (omega arith) ∙ ap g (omega arith)))
-      ∙ value-more R (λ i. bitK F l (g i)) (suc r) s (b d) (λ i le. ap (bitK F l) (g_past i (omega arith)))
+      (value_none R (λ i. bit_k F l (shifted k g i)) k (b d) (λ i lt. ap (bit_k F l) (shifted-low k g i lt)))
+      (value-cong R (λ i. bit_k F l (shifted k g (k + i))) (λ i. bit_k F l (g i)) (suc r + s) (b d) (λ i _. ap (bit_k F l) (shifted-from k g (k + i) (omega arith) ∙ ap g (omega arith)))
+      ∙ value-more R (λ i. bit_k F l (g i)) (suc r) s (b d) (λ i le. ap (bit_k F l) (g_past i (omega arith)))
       ∙ g_root d h)
       ∙ solve R (p ∷ []) (O ⊕ var 0 ⊗ O) O tt
 
   -- a sum with a multiple of x ^ k g
   plus-shifted : (c : ℕ → Bool) (a : Bool) (k n : ℕ) (x : Element F)
-      → at (λ j. xor (c j) (cond a (shifted k g j) false)) n x ≡ (ops F l).add (at c n x) ((ops F l).mul (bitK F l a) (at (shifted k g) n x))
+      → at (λ j. xor (c j) (cond a (shifted k g j) false)) n x ≡ (ops F l).add (at c n x) ((ops F l).mul (bit_k F l a) (at (shifted k g) n x))
   plus-shifted c a k n x =
       let R = ring2 F l in
-      value-cong R (λ j. bitK F l (xor (c j) (cond a (shifted k g j) false))) (λ j. (ops F l).add (bitK F l (c j)) ((ops F l).mul (bitK F l a) (bitK F l (shifted k g j)))) n x
-      (λ j _. bit_k_xor F l (c j) (cond a (shifted k g j) false) ∙ ap ((ops F l).add (bitK F l (c j))) (bit_k_cond F l a (shifted k g j)))
-      ∙ value-add R (λ j. bitK F l (c j)) (λ j. (ops F l).mul (bitK F l a) (bitK F l (shifted k g j))) n x
-      ∙ ap ((ops F l).add (at c n x)) (value-scale R (bitK F l a) (λ j. bitK F l (shifted k g j)) n x)
+      value-cong R (λ j. bit_k F l (xor (c j) (cond a (shifted k g j) false))) (λ j. (ops F l).add (bit_k F l (c j)) ((ops F l).mul (bit_k F l a) (bit_k F l (shifted k g j)))) n x
+      (λ j _. bit_k_xor F l (c j) (cond a (shifted k g j) false) ∙ ap ((ops F l).add (bit_k F l (c j))) (bit_k_cond F l a (shifted k g j)))
+      ∙ value-add R (λ j. bit_k F l (c j)) (λ j. (ops F l).mul (bit_k F l a) (bit_k F l (shifted k g j))) n x
+      ∙ ap ((ops F l).add (at c n x)) (value-scale R (bit_k F l a) (λ j. bit_k F l (shifted k g j)) n x)
 
   abbrev Multiple : ℕ → (ℕ → Bool) → Type 0
   Multiple k c = (q : ℕ → Bool) × ((j : ℕ) → j < r + k → c j ≡ product q g k j)
@@ -138,7 +138,7 @@ module _ (F : FieldModel) (l : FieldLaws F) (t : ℕ) (few : Few t) where
       let z : r + 0 ≡ r = omega arith in (
         (λ _. false),
         λ j lt. bit_k_once F l (c j) false
-            (all_none (field2 F l) (λ p. bitK F l (c p)) r (rootAt F l) r (omega arith) (roots_apart (field2 F l) (alpha F l) (units F) (turn F l) (once F l) t r (is_fine F l t few))
+            (all_none (field2 F l) (λ p. bit_k F l (c p)) r (root_at F l) r (omega arith) (roots_apart (field2 F l) (alpha F l) (units F) (turn F l) (once F l) t r (is_fine F l t few))
             (λ d u. ap (λ n. at c n (b d)) (sym z) ∙ h d u) j (omega arith)),
       )
   multiple (suc k) c h = up (multiple k less less_root)
@@ -161,11 +161,11 @@ module _ (F : FieldModel) (l : FieldLaws F) (t : ℕ) (few : Few t) where
           let z : suc (r + k) ≡ r + suc k = omega arith in
           let y : r + suc k ≡ k + (suc r + 0) = omega arith in
           solve R (at less n (b d) ∷ pow (ops F l) (b d) n ∷ []) (var 0) (var 0 ⊕ O ⊗ var 1) tt
-          ∙ ap (λ v. (ops F l).add (at less n (b d)) ((ops F l).mul (bitK F l v) (pow (ops F l) (b d) n))) (sym less_top)
+          ∙ ap (λ v. (ops F l).add (at less n (b d)) ((ops F l).mul (bit_k F l v) (pow (ops F l) (b d) n))) (sym less_top)
           ∙ ap (λ m. at less m (b d)) z
           ∙ plus-shifted c (c (r + k)) k (r + suc k) (b d)
-          ∙ ap₂ (λ v w. (ops F l).add v ((ops F l).mul (bitK F l (c (r + k))) w)) (h d u) (ap (λ m. at (shifted k g) m (b d)) y ∙ shifted-root k 0 d u)
-          ∙ solve R (bitK F l (c (r + k)) ∷ []) (O ⊕ var 0 ⊗ O) O tt
+          ∙ ap₂ (λ v w. (ops F l).add v ((ops F l).mul (bit_k F l (c (r + k))) w)) (h d u) (ap (λ m. at (shifted k g) m (b d)) y ∙ shifted-root k 0 d u)
+          ∙ solve R (bit_k F l (c (r + k)) ∷ []) (O ⊕ var 0 ⊗ O) O tt
 
       up : Multiple k less → Multiple (suc k) c
       up w = (put k (c (r + k)) w.0, whole)
@@ -198,7 +198,7 @@ module _ (F : FieldModel) (l : FieldLaws F) (t : ℕ) (few : Few t) where
                 let z : suc j ≡ suc p.0 + suc p.0 = omega arith in
                 let x = pow (ops F l) (alpha F l) (suc p.0) in
                 ap (λ i. at c n (pow (ops F l) (alpha F l) i)) z ∙ ap (at c n) (pow-add (ring2 F l) (alpha F l) (suc p.0) (suc p.0))
-                ∙ sym (value-square (ring2 F l) (λ p. bitK F l (c p)) n x (λ i _. bit_k_square F l (c i)))
+                ∙ sym (value-square (ring2 F l) (λ p. bit_k F l (c p)) n x (λ i _. bit_k_square F l (c i)))
                 ∙ ap ((ops F l).mul (at c n x)) (ih p.0 (omega arith) (omega arith)) ∙ mul_zero (ring2 F l) _
           ]
 
@@ -208,20 +208,20 @@ module _ (F : FieldModel) (l : FieldLaws F) (t : ℕ) (few : Few t) where
     degree = g_past;
     roots = λ j lo hi.
         let z : suc (j - 1) ≡ j = omega arith in
-        sym (powerSum-value F l j g (suc r))
+        sym (power_sum-value F l j g (suc r))
         ∙ ap (λ i. (at g (suc r) (pow (ops F l) (alpha F l) i)).0) (sym z)
         ∙ number F l
-        (all-roots g (suc r) (starts_vanish (field2 F l) (alpha F l) (units F) (turn F l) (once F l) t r (is_fine F l t few) (λ p. bitK F l (g p)) (suc r) g_root) (j - 1) (j - 1) (omega arith) (omega arith));
+        (all-roots g (suc r) (starts_vanish (field2 F l) (alpha F l) (units F) (turn F l) (once F l) t r (is_fine F l t few) (λ p. bit_k F l (g p)) (suc r) g_root) (j - 1) (j - 1) (omega arith) (omega arith));
     lowest = λ c k le h i lt.
         bit_k_once F l (c i) false
-        (all_none (field2 F l) (λ p. bitK F l (c p)) k (rootAt F l) r le (roots_apart (field2 F l) (alpha F l) (units F) (turn F l) (once F l) t r (is_fine F l t few))
-        (vanishes-at (field2 F l) (alpha F l) (units F) (turn F l) (once F l) t r (is_fine F l t few) (λ p. bitK F l (c p)) k (λ i _. bit_k_square F l (c i))
-        (λ i u. same F _ _ (powerSum-value F l (suc (i + i)) c k ∙ h (suc (i + i)) (omega arith) (omega arith)))) i lt);
+        (all_none (field2 F l) (λ p. bit_k F l (c p)) k (root_at F l) r le (roots_apart (field2 F l) (alpha F l) (units F) (turn F l) (once F l) t r (is_fine F l t few))
+        (vanishes-at (field2 F l) (alpha F l) (units F) (turn F l) (once F l) t r (is_fine F l t few) (λ p. bit_k F l (c p)) k (λ i _. bit_k_square F l (c i))
+        (λ i u. same F _ _ (power_sum-value F l (suc (i + i)) c k ∙ h (suc (i + i)) (omega arith) (omega arith)))) i lt);
   }
 
   -- a code row is a multiple of the generator
   pub code_multiple : (c : ℕ → Bool) → Code F t c → Multiple (data_cells F.m t) c
   code_multiple c code =
       multiple (data_cells F.m t) c
-      (vanishes-at (field2 F l) (alpha F l) (units F) (turn F l) (once F l) t r (is_fine F l t few) (λ p. bitK F l (c p)) (r + data_cells F.m t) (λ i _. bit_k_square F l (c i))
+      (vanishes-at (field2 F l) (alpha F l) (units F) (turn F l) (once F l) t r (is_fine F l t few) (λ p. bit_k F l (c p)) (r + data_cells F.m t) (λ i _. bit_k_square F l (c i))
       (from_code F l t few c code))

@@ -11,7 +11,7 @@ use Rattle.memory.specs.Mem.{Mem, Unchanged, Knocked}
 use Rattle.galois.specs.Lists.{tabulate}
 use Rattle.galois.specs.Model.{FieldLaws}
 use Rattle.galois.specs.Rows.{Few, cell_of}
-use Rattle.galois.proofs.Tabulated.{length-tabulate, tabulate-cong, tabulate-getD}
+use Rattle.galois.proofs.Tabulated.{length-tabulate, tabulate-cong, tabulate-get_or}
 use Rattle.bch.specs.Buffers.{shown}
 use Rattle.tally.specs.Tally.{Setting, Call, write, mend, knock}
 use Rattle.tally.specs.Buffers.{unpacked}
@@ -66,7 +66,7 @@ module _ (b b' : BookModel) (laws : FieldLaws b.field) (few : Few b.strength) (s
   -- a row laid down is the only one that changed
   pub laid-only : (r : ℕ) (row : List Bool) → r < rows_of b → length row ≡ row_size b → RowLaid b b' r row → Only (setting b) r (cell b) (cell b') row
   laid-only r row l long p = record {
-    here = tabulate-cong (λ j. cell b' (r * row_size b + j)) (cell_of row) (row_size b) p.here ∙ ap (tabulate (cell_of row)) (sym long) ∙ tabulate-getD row false;
+    here = tabulate-cong (λ j. cell b' (r * row_size b + j)) (cell_of row) (row_size b) p.here ∙ ap (tabulate (cell_of row)) (sym long) ∙ tabulate-get_or row false;
     there = λ q k ne. tabulate-cong (λ j. cell b' (q * row_size b + j)) (λ j. cell b (q * row_size b + j)) (row_size b) (λ j u. p.there (q * row_size b + j) (omega (arith, digits_lt k u, rows_room b)) (side q j u ne));
   }
     where

@@ -8,7 +8,7 @@ use Rattle.galois.proofs.Determinants.{pow_e}
 use Rattle.galois.proofs.Laws.{mul_zero, power-lt}
 use Rattle.galois.proofs.Lift.{Element, same, ops, ring2, number}
 use Rattle.galois.proofs.Powers.{sum_is, product_is, below}
-use Rattle.galois.proofs.PowerSums.{powerSum-lt}
+use Rattle.galois.proofs.PowerSums.{power_sum-lt}
 use Rattle.galois.proofs.Distances.{Turns}
 use Rattle.galois.proofs.Differ.{turn-sum}
 use Rattle.galois.specs.Ring.{numbers}
@@ -20,7 +20,7 @@ module _ (F : FieldModel) (l : FieldLaws F) where
   pub turned-sum : (c y : ℕ → Bool) (p i s z r : ℕ) → Turns c y p → p < units F → s ≡ power_sum F i c (units F) → z ≡ power F (i * p)
       → r ≡ sum_of F s z → r ≡ power_sum F i y (units F)
   turned-sum c y p i s z r turn lt es ez er =
-      sum_is F l s z r (power_sum F i c (units F), powerSum-lt F l i c (units F)) (power F (i * p), power-lt F l (i * p)) es ez er
+      sum_is F l s z r (power_sum F i c (units F), power_sum-lt F l i c (units F)) (power F (i * p), power-lt F l (i * p)) es ez er
       ∙ sym (turn-sum F l c y i p (units F) lt turn)
 
   -- ---- determinants

@@ -81,8 +81,8 @@ module _ {K : Type 0} {P : Ops K} {is0 : K → Bool} (F : Field2 P is0) {A : Typ
   abbrev pairs : A → A → A → K
   pairs a b c = add (add (mul (X a) (X b)) (mul (X a) (X c))) (mul (X b) (X c))
 
-  abbrev pairsE : Expr
-  pairsE = v0 ⊗ v1 ⊕ v0 ⊗ v2 ⊕ v1 ⊗ v2
+  abbrev pairs_e : Expr
+  pairs_e = v0 ⊗ v1 ⊕ v0 ⊗ v2 ⊕ v1 ⊗ v2
 
   three : (t : ℕ) (a b c : A) (r2 r3 : K) → 3 ≤ t → X a ≢ X b → X a ≢ X c → X b ≢ X c → Of t (a ∷ b ∷ c ∷ []) r2 r3
       → (r2 ≡ pairs a b c) × (r3 ≡ mul (mul (X a) (X b)) (X c))
@@ -95,14 +95,14 @@ module _ {K : Type 0} {P : Ops K} {is0 : K → Bool} (F : Field2 P is0) {A : Typ
       let q = h.1 d in
       let r : r2 ≡ pairs a b c =
       same_factor (D2 P (S P X 1 l) (S P X 3 l)) r2 (pairs a b c) d
-      (q.0 ∙ solve ring (X a ∷ X b ∷ X c ∷ []) (pow_e (s_e 1 E3) 2 ⊗ s_e 3 E3 ⊕ s_e 5 E3) (D2E E3 ⊗ pairsE) tt) in (
+      (q.0 ∙ solve ring (X a ∷ X b ∷ X c ∷ []) (pow_e (s_e 1 E3) 2 ⊗ s_e 3 E3 ⊕ s_e 5 E3) (D2E E3 ⊗ pairs_e) tt) in (
         r,
         q.1 ∙ ap (λ y. add (D2 P (S P X 1 l) (S P X 3 l)) (mul (S P X 1 l) y)) r
-            ∙ solve ring (X a ∷ X b ∷ X c ∷ []) (D2E E3 ⊕ s_e 1 E3 ⊗ pairsE) (v0 ⊗ v1 ⊗ v2) tt,
+            ∙ solve ring (X a ∷ X b ∷ X c ∷ []) (D2E E3 ⊕ s_e 1 E3 ⊗ pairs_e) (v0 ⊗ v1 ⊗ v2) tt,
       )
 
-  abbrev cubicE : Expr → Expr → Expr → Expr → Expr
-  cubicE r1 r2 r3 x = ((x ⊕ r1) ⊗ x ⊕ r2) ⊗ x ⊕ r3
+  abbrev cubic_e : Expr → Expr → Expr → Expr → Expr
+  cubic_e r1 r2 r3 x = ((x ⊕ r1) ⊗ x ⊕ r2) ⊗ x ⊕ r3
 
   locator-product : (t : ℕ) (l : List A) (r2 r3 x : K) → Few t → 1 ≤ length l → length l ≤ t → Distinct X l → All (λ a. X a ≢ o) l
       → Of t l r2 r3 → (k : ℕ) × (cubic P (S P X 1 l) r2 r3 x ≡ mul (pow P x k) (product l x))
@@ -111,19 +111,19 @@ module _ {K : Type 0} {P : Ops K} {is0 : K → Bool} (F : Field2 P is0) {A : Typ
       let q = one t a r2 r3 few n.0 h in (
         2,
         ap₂ (λ y z. cubic P (S P X 1 (a ∷ [])) y z x) q.0 q.1
-            ∙ solve ring (X a ∷ x ∷ []) (cubicE (s_e 1 (v0 ∷ [])) O O v1) (pow_e v1 2 ⊗ ((v1 ⊕ v0) ⊗ I)) tt,
+            ∙ solve ring (X a ∷ x ∷ []) (cubic_e (s_e 1 (v0 ∷ [])) O O v1) (pow_e v1 2 ⊗ ((v1 ⊕ v0) ⊗ I)) tt,
       )
   locator-product t (a ∷ b ∷ []) r2 r3 x few w w' d n h =
       let q = two t a b r2 r3 w' n.0 n.1.0 d.0.0 h in (
         1,
         ap₂ (λ y z. cubic P (S P X 1 (a ∷ b ∷ [])) y z x) q.0 q.1
-            ∙ solve ring (X a ∷ X b ∷ x ∷ []) (cubicE (s_e 1 E2) (v0 ⊗ v1) O v2) (pow_e v2 1 ⊗ ((v2 ⊕ v0) ⊗ ((v2 ⊕ v1) ⊗ I))) tt,
+            ∙ solve ring (X a ∷ X b ∷ x ∷ []) (cubic_e (s_e 1 E2) (v0 ⊗ v1) O v2) (pow_e v2 1 ⊗ ((v2 ⊕ v0) ⊗ ((v2 ⊕ v1) ⊗ I))) tt,
       )
   locator-product t (a ∷ b ∷ c ∷ []) r2 r3 x few w w' d n h =
       let q = three t a b c r2 r3 w' d.0.0 d.0.1.0 d.1.0.0 h in (
         0,
         ap₂ (λ y z. cubic P (S P X 1 (a ∷ b ∷ c ∷ [])) y z x) q.0 q.1
-            ∙ solve ring (X a ∷ X b ∷ X c ∷ x ∷ []) (cubicE (s_e 1 E3) pairsE (v0 ⊗ v1 ⊗ v2) v3)
+            ∙ solve ring (X a ∷ X b ∷ X c ∷ x ∷ []) (cubic_e (s_e 1 E3) pairs_e (v0 ⊗ v1 ⊗ v2) v3)
             (pow_e v3 0 ⊗ ((v3 ⊕ v0) ⊗ ((v3 ⊕ v1) ⊗ ((v3 ⊕ v2) ⊗ I)))) tt,
       )
   locator-product t (a ∷ b ∷ c ∷ f ∷ l) r2 r3 x few w w' d n h = absurd (omega arith)

@@ -3,7 +3,7 @@ use Rattle.std.proofs.Common.{◌≡◌, ℕ, suc, ◌+◌, ◌<◌, ◌≤◌, 
 use Rattle.galois.specs.Model.{FieldModel, units}
 use Rattle.galois.specs.Lists.{tabulate}
 use Rattle.galois.specs.Rows.{power_sum, cell_of, syndrome, CodeRow, distance, Near}
-use Rattle.galois.proofs.Tabulated.{length-tabulate, get_d_tabulate}
+use Rattle.galois.proofs.Tabulated.{length-tabulate, get_or-tabulate}
 use Rattle.galois.proofs.PowerSums.{power_sum-cong}
 use Rattle.galois.proofs.Distances.{apart, apart-cong, apart-sym, distance-of_rows}
 use Rattle.galois.proofs.Least.{Code, code_cells}
@@ -22,7 +22,7 @@ cells_within F t row c long N = record {
 
 -- ---- the list of the first n cells
 pub cell-tabulate : (f : ℕ → Bool) (n j : ℕ) → j < n → cell_of (tabulate f n) j ≡ f j
-cell-tabulate f n j lt = get_d_tabulate f n false j lt
+cell-tabulate f n j lt = get_or-tabulate f n false j lt
 
 pub syndrome-tabulate : (F : FieldModel) (i : ℕ) (f : ℕ → Bool) (n : ℕ) → syndrome F i (tabulate f n) ≡ power_sum F i f n
 syndrome-tabulate F i f n =

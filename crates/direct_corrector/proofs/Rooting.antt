@@ -5,7 +5,7 @@ use Rattle.galois.specs.Model.{FieldModel, FieldLaws, size, units, power}
 use Rattle.galois.specs.Ring.{numbers}
 use Rattle.galois.specs.Rows.{Few}
 use Rattle.galois.proofs.Laws.{power-lt}
-use Rattle.galois.proofs.PowerSums.{powerSum-lt}
+use Rattle.galois.proofs.PowerSums.{power_sum-lt}
 use Rattle.field.specs.declared.syndromes.Syndromes.{Syndromes}
 use Rattle.field.specs.Syndromes.{syndromes_of, with_turn}
 use Rattle.decoding.specs.Locators.{cubic, Locates}
@@ -39,7 +39,7 @@ module _ (F : FieldModel) (l : FieldLaws F) (t : ℕ) (few : Few t) (start : Lis
     sums = syndromes_of F (bit_at 8 start) (units F)
 
     elements : Elements F sums
-    elements = (powerSum-lt F l 1 (bit_at 8 start) (units F), powerSum-lt F l 3 (bit_at 8 start) (units F), powerSum-lt F l 5 (bit_at 8 start) (units F))
+    elements = (power_sum-lt F l 1 (bit_at 8 start) (units F), power_sum-lt F l 3 (bit_at 8 start) (units F), power_sum-lt F l 5 (bit_at 8 start) (units F))
 
     found : (lower.second < size F) × (lower.third < size F) × Locates (numbers F) t sums.s1 sums.s3 sums.s5 lower.second lower.third
     found = subst (λ (s : Syndromes). Located F t s lower) es L few elements

@@ -4,7 +4,7 @@ use Rattle.bits.specs.Bits.{bit_of, bit_at}
 use Rattle.galois.specs.Model.{FieldModel, FieldLaws, power, sum_of, product-of}
 use Rattle.galois.specs.Rows.{power_sum}
 use Rattle.galois.proofs.Laws.{power-lt}
-use Rattle.galois.proofs.PowerSums.{powerSum-lt}
+use Rattle.galois.proofs.PowerSums.{power_sum-lt}
 use Rattle.galois.proofs.Powers.{sum_is, cube_is, fifth_is}
 use Rattle.field.specs.declared.syndromes.Syndromes.{Syndromes}
 use Rattle.field.specs.Syndromes.{syndromes_of, with_turn}
@@ -20,7 +20,7 @@ module _ (F : FieldModel) (l : FieldLaws F) (c : ℕ → Bool) (p : ℕ) where
   next : (i s z : ℕ) → s ≡ power_sum F i c p → z ≡ power F (i * p) → c p ≡ true → sum_of F s z ≡ power_sum F i c (p + 1)
   unfolding power_sum
   next i s z es ez set =
-      sum_is F l s z (sum_of F s z) (power_sum F i c p, powerSum-lt F l i c p) (power F (i * p), power-lt F l (i * p)) es ez refl
+      sum_is F l s z (sum_of F s z) (power_sum F i c p, power_sum-lt F l i c p) (power F (i * p), power-lt F l (i * p)) es ez refl
       ∙ ap (λ b. F.add (power_sum F i c p) (cond b (power F (i * p)) 0)) (sym set) ∙ ap (power_sum F i c) (sym (add-one p))
 
   pub sums_set : (s : Syndromes) (x : ℕ) → c p ≡ true → s ≡ syndromes_of F c p → x ≡ power F p → with_turn F s x ≡ syndromes_of F c (p + 1)
@@ -34,7 +34,7 @@ module _ (F : FieldModel) (l : FieldLaws F) (c : ℕ → Bool) (p : ℕ) where
   same : (i : ℕ) → c p ≡ false → power_sum F i c p ≡ power_sum F i c (p + 1)
   unfolding power_sum
   same i clear =
-      sym (l.ring.add_zero (power_sum F i c p) (powerSum-lt F l i c p))
+      sym (l.ring.add_zero (power_sum F i c p) (power_sum-lt F l i c p))
       ∙ ap (λ b. F.add (power_sum F i c p) (cond b (power F (i * p)) 0)) (sym clear) ∙ ap (power_sum F i c) (sym (add-one p))
 
   pub sums_clear : c p ≡ false → syndromes_of F c p ≡ syndromes_of F c (p + 1)

@@ -10,7 +10,7 @@ use Rattle.galois.specs.Rows.{power_sum, unlike}
 use Rattle.galois.proofs.Solve.{var, O, ◌⊕◌, solve}
 use Rattle.galois.proofs.Laws.{power-lt, power-add, power-unit}
 use Rattle.galois.proofs.Lift.{Element, same, ops, ring2, alpha, once, number, pow-power}
-use Rattle.galois.proofs.PowerSums.{powerSum-lt, power_sum-cong}
+use Rattle.galois.proofs.PowerSums.{power_sum-lt, power_sum-cong}
 use Rattle.galois.proofs.Distances.{apart, Turns}
 
 -- the positions below n at which two rows differ, the highest first
@@ -106,7 +106,7 @@ module _ (F : FieldModel) (l : FieldLaws F) where
 
   -- a power sum as an element
   abbrev pub sum_of : ℕ → (ℕ → Bool) → ℕ → Element F
-  sum_of i c n = (power_sum F i c n, powerSum-lt F l i c n)
+  sum_of i c n = (power_sum F i c n, power_sum-lt F l i c n)
 
   -- what a cell adds to it
   abbrev term : ℕ → ℕ → Bool → Element F
@@ -123,7 +123,7 @@ module _ (F : FieldModel) (l : FieldLaws F) where
   -- the power sums over the positions at which two rows differ are the sums of theirs
   pub differ-sums : (c d : ℕ → Bool) (i n : ℕ) → S (ops F l) X i (differ c d n) ≡ (ops F l).add (sum_of i c n) (sum_of i d n)
   unfolding differ power_sum
-  differ-sums c d i zero = same F _ _ (sym (l.ring.add_zero 0 (powerSum-lt F l i c 0)))
+  differ-sums c d i zero = same F _ _ (sym (l.ring.add_zero 0 (power_sum-lt F l i c 0)))
   differ-sums c d i (suc n) =
       step (c n) (d n) (sum_of i c n) (sum_of i d n) (differ-sums c d i n)
       ∙ sym (ap₂ (ops F l).add (sum_more i c n) (sum_more i d n))

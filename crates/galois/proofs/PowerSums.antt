@@ -15,7 +15,7 @@ module _ (F : FieldModel) (l : FieldLaws F) where
   cond-lt true x h = h
   cond-lt false x h = pow_pos F.m
 
-  pub powerSum-lt : (i : ℕ) (c : ℕ → Bool) (n : ℕ) → power_sum F i c n < size F
+  pub power_sum-lt : (i : ℕ) (c : ℕ → Bool) (n : ℕ) → power_sum F i c n < size F
   unfolding power_sum
-  powerSum-lt i c zero = pow_pos F.m
-  powerSum-lt i c (suc n) = l.ring.add_lt _ _ (powerSum-lt i c n) (cond-lt (c n) _ (power-lt F l (i * n)))
+  power_sum-lt i c zero = pow_pos F.m
+  power_sum-lt i c (suc n) = l.ring.add_lt _ _ (power_sum-lt i c n) (cond-lt (c n) _ (power-lt F l (i * n)))

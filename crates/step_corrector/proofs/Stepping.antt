@@ -4,7 +4,7 @@ use Rattle.std.proofs.lemmas.Bool.{both_ways}
 use Rattle.bits.specs.Bits.{bit_at, turned_at}
 use Rattle.galois.specs.Model.{FieldModel, FieldLaws, units, power}
 use Rattle.galois.specs.Rows.{Few}
-use Rattle.galois.proofs.PowerSums.{powerSum-lt}
+use Rattle.galois.proofs.PowerSums.{power_sum-lt}
 use Rattle.field.specs.declared.syndromes.Syndromes.{Syndromes}
 use Rattle.field.specs.Syndromes.{syndromes_of, with_turn}
 use Rattle.decoding.proofs.Shown.{class_at}
@@ -31,7 +31,7 @@ pub record Known (F : FieldModel) (t : ℕ) (start row : List ℕ) (p count : �
 
 module _ (F : FieldModel) (l : FieldLaws F) (t : ℕ) (few : Few t) where
   elements : (c : ℕ → Bool) → Elements F (syndromes_of F c (units F))
-  elements c = (powerSum-lt F l 1 c (units F), powerSum-lt F l 3 c (units F), powerSum-lt F l 5 c (units F))
+  elements c = (power_sum-lt F l 1 c (units F), power_sum-lt F l 3 c (units F), power_sum-lt F l 5 c (units F))
 
   -- the class of the syndromes of a row is its class
   classed_at : (c : ℕ → Bool) (s : Syndromes) (k : Class) → s ≡ syndromes_of F c (units F) → Classed F t s k → number k ≡ class_at F t c

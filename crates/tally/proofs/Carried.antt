@@ -7,7 +7,7 @@ use Rattle.memory.specs.Mem.{in_run, turned}
 use Rattle.galois.specs.Lists.{tabulate}
 use Rattle.galois.proofs.Tabulated.{length-tabulate, tabulate-cong}
 use Rattle.tally.specs.Rows.{turned_by}
-use Rattle.tally.specs.Tally.{Setting, Call, write, mend, knock, Row, dataCellsOf, nearest, afterWrite, struck, after}
+use Rattle.tally.specs.Tally.{Setting, Call, write, mend, knock, Row, data_cells_of, nearest, after_write, struck, after}
 use Rattle.tally.specs.Damage.{Lawful, Within, Near, Stands}
 use Rattle.tally.specs.Buffers.{unpacked}
 use Rattle.tally.specs.Promises.{row_of, Holds, Keeps, Survives, ReadPromise, MendPromise, Only, Same, CallLaws}
@@ -58,7 +58,7 @@ module _ (b : Setting) (law : Lawful b) where
   not_written r buffer before now why e h v q l =
       ⊎_elim
       (λ past. rw (ne_eqb r q (λ z. omega arith)) (same_holds before now e h v q l))
-      (λ bad. either (λ (w : Row). row_of b now q ≡ w.cells) (eqb r q) (afterWrite b (unpacked k buffer) (after b h q)) _ (rw bad (same_holds before now e h v q l)) (same_holds before now e h v q l))
+      (λ bad. either (λ (w : Row). row_of b now q ≡ w.cells) (eqb r q) (after_write b (unpacked k buffer) (after b h q)) _ (rw bad (same_holds before now e h v q l)) (same_holds before now e h v q l))
       why
 
   pub nearest-is : (row c : List Bool) → length row ≡ n → Near b s row c → nearest b s row ≡ some c
@@ -115,9 +115,9 @@ module _ (b : Setting) (law : Lawful b) where
   survivor : (h : List Call) (cell : ℕ → Bool) → Holds b h cell → (r : ℕ) → r < R → Survives b h r → Near b s (row_of b cell r) (encode (after b h r).written)
   survivor h cell v r l o = subst (λ (row : List Bool). Near b s row (encode (after b h r).written)) (sym (v r l)) (stands.in_reach h r l (calm h r l o))
 
-  given : (r : ℕ) (cell : ℕ → Bool) (c : List Bool) → r < R → Near b s (row_of b cell r) c → ReadPromise b r cell (some (dataCellsOf b c))
+  given : (r : ℕ) (cell : ℕ → Bool) (c : List Bool) → r < R → Near b s (row_of b cell r) c → ReadPromise b r cell (some (data_cells_of b c))
   given r cell c l m = record {
-    honest = λ h v w d e. let f : d ≡ dataCellsOf b c = cc in f ∙ stands.true_data h r l w c (at-tally h cell v r l c m);
+    honest = λ h v w d e. let f : d ≡ data_cells_of b c = cc in f ∙ stands.true_data h r l w c (at-tally h cell v r l c m);
     sure = λ h v o. ap some (stands.true_data h r l (looser b law (after b h r) (calm h r l o)) c (at-tally h cell v r l c m));
   }
 

@@ -10,7 +10,7 @@ use Rattle.galois.specs.Rows.{Few, power_sum, cell_of, syndrome, CodeRow, data_c
 use Rattle.galois.proofs.Laws.{power-lt}
 use Rattle.galois.proofs.Least.{Code, code_cells, rows_apart}
 use Rattle.galois.proofs.PowerSums.{power_sum-cong}
-use Rattle.galois.proofs.Tabulated.{length-tabulate, get_d_tabulate, tabulate-cong, tabulate-getD, drop-tabulate, same_list}
+use Rattle.galois.proofs.Tabulated.{length-tabulate, get_or-tabulate, tabulate-cong, tabulate-get_or, drop-tabulate, same_list}
 use Rattle.bch.specs.Steps.{coefficient, register}
 use Rattle.bch.proofs.CodeRows.{Packs, all_cells, coefficient-lt, one_row, register-code}
 use Rattle.bch.proofs.Packing.{push_bits}
@@ -77,7 +77,7 @@ module _ (F : FieldModel) (l : FieldLaws F) (t : ℕ) (few : Few t) where
     cells = length-tabulate c n;
     zeros = λ i lt.
         ap (power_sum F (suc (i + i)) (cell_of (tabulate c n))) (length-tabulate c n)
-        ∙ power_sum-cong F (suc (i + i)) (cell_of (tabulate c n)) c n (get_d_tabulate c n false) ∙ code i lt;
+        ∙ power_sum-cong F (suc (i + i)) (cell_of (tabulate c n)) c n (get_or-tabulate c n false) ∙ code i lt;
   }
 
   -- code rows with the same data are one
@@ -105,7 +105,7 @@ module _ (F : FieldModel) (l : FieldLaws F) (t : ℕ) (few : Few t) where
       listed-code laid_out (register-code F l t few generator.0 generator.1 (cell_of d) laid_out below above),
       ap (λ m. drop r (tabulate laid_out m)) (sym (all_cells F l t few)) ∙ drop-tabulate laid_out r k
           ∙ tabulate-cong (λ j. laid_out (r + j)) (cell_of d) k above
-          ∙ ap (tabulate (cell_of d)) (sym long) ∙ tabulate-getD d false,
+          ∙ ap (tabulate (cell_of d)) (sym long) ∙ tabulate-get_or d false,
     )
 
     abbrev fits : List Bool → Bool

@@ -11,7 +11,7 @@ use Rattle.std.proofs.lemmas.Nat.{mod_below, div_below}
 use Rattle.memory.specs.Lines.{Interleaved}
 use Rattle.galois.specs.Rows.{distance}
 use Rattle.tally.specs.Rows.{hits}
-use Rattle.tally.specs.Tally.{Setting, Call, write, read, mend, sweep, knock, Row, dataCellsOf, nearest, blank, afterWrite, afterMend, afterKnock, struck, step, after}
+use Rattle.tally.specs.Tally.{Setting, Call, write, read, mend, sweep, knock, Row, data_cells_of, nearest, blank, after_write, after_mend, after_knock, struck, step, after}
 use Rattle.tally.specs.Damage.{Lawful, Within, Near, mends, onto, pieces, knocks, OneOf, Spaced, DamageLaws}
 use Rattle.tally.specs.Buffers.{unpacked}
 use Rattle.tally.proofs.Buffers.{unpacked-long}
@@ -42,7 +42,7 @@ module _ (b : Setting) (law : Lawful b) where
     near = λ _. rw law.zeros (omega (arith, distance_self (replicate n false)));
   }
 
-  kept_written : (w : Row) (buffer : List ℕ) → Kept w → (o : Option (List Bool)) → unpacked k buffer ≡ o → Kept (afterWrite b o w)
+  kept_written : (w : Row) (buffer : List ℕ) → Kept w → (o : Option (List Bool)) → unpacked k buffer ≡ o → Kept (after_write b o w)
   kept_written w buffer v none e = v
   kept_written w buffer v (some d) e = record {
     long = law.long d (unpacked-long k buffer d e);
@@ -56,7 +56,7 @@ module _ (b : Setting) (law : Lawful b) where
       law.apart w.cells c (encode w.written) v.long p.long (law.long w.written v.sized) p.coded (law.coded w.written v.sized)
       (omega (arith, law.reach, p.close, v.near m.1, m.0))
 
-  kept_mended : (w : Row) → Kept w → (o : Option (List Bool)) → nearest b s w.cells ≡ o → Kept (afterMend b o w)
+  kept_mended : (w : Row) → Kept w → (o : Option (List Bool)) → nearest b s w.cells ≡ o → Kept (after_mend b o w)
   kept_mended w v none e = v
   kept_mended w v (some c) e = record {
     long = (found b s w.cells c e).long;
@@ -64,7 +64,7 @@ module _ (b : Setting) (law : Lawful b) where
     near = λ m. rw (own w v m c (found b s w.cells c e)) (omega (arith, distance_self (encode w.written)));
   }
 
-  kept_knocked : (w : Row) (hit : ℕ → Bool) → Kept w → Kept (afterKnock b hit w)
+  kept_knocked : (w : Row) (hit : ℕ → Bool) → Kept w → Kept (after_knock b hit w)
   kept_knocked w hit v = record {
     long = length-turned hit w.cells ∙ v.long;
     sized = v.sized;
@@ -82,8 +82,8 @@ module _ (b : Setting) (law : Lawful b) where
   kept [] r = kept_blank
   kept (c ∷ h) r = kept_step r c (after b h r) (kept h r)
 
-  true_data : (h : List Call) (r : ℕ) → Within (2 * t - s) (after b h r) → (c : List Bool) → Near b s (after b h r).cells c → dataCellsOf b c ≡ (after b h r).written
-  true_data h r m c p = ap (dataCellsOf b) (own (after b h r) (kept h r) m c p) ∙ law.back (after b h r).written (kept h r).sized
+  true_data : (h : List Call) (r : ℕ) → Within (2 * t - s) (after b h r) → (c : List Bool) → Near b s (after b h r).cells c → data_cells_of b c ≡ (after b h r).written
+  true_data h r m c p = ap (data_cells_of b) (own (after b h r) (kept h r) m c p) ∙ law.back (after b h r).written (kept h r).sized
 
   pub looser : (w : Row) → Within s w → Within (2 * t - s) w
   looser w m = (omega (arith, law.reach), All-weaker (λ x. x ≤ s) (λ x. x ≤ 2 * t - s) (λ x l. omega (arith, law.reach)) w.earlier m.1)
@@ -104,7 +104,7 @@ module _ (b : Setting) (law : Lawful b) where
   mends-row h r zero l = absurd (omega arith)
   mends-row h r (suc m) l =
       ⊎_elim
-      (λ e. rw (eq-eqb m r e) (ap (λ (w : Row). afterMend b (nearest b s w.cells) w) (mends-past h r m (omega arith))))
+      (λ e. rw (eq-eqb m r e) (ap (λ (w : Row). after_mend b (nearest b s w.cells) w) (mends-past h r m (omega arith))))
       (λ e. rw (ne_eqb m r e) (mends-row h r m (omega arith)))
       (cases_eq m r)
 
@@ -140,20 +140,20 @@ module _ (b : Setting) (law : Lawful b) where
     spaced_onto c [] o = tt
     spaced_onto c (p ∷ ps) o = (fewer c p o.0, o.1)
 
-    calm_written : (ps : List (List Call)) (w : Row) (o : Option (List Bool)) → Calm ps w → Calm ps (afterWrite b o w)
+    calm_written : (ps : List (List Call)) (w : Row) (o : Option (List Bool)) → Calm ps w → Calm ps (after_write b o w)
     calm_written ps w none v = v
     calm_written ps w (some d) v = ((omega arith, tt), fresh_zero ps)
 
-    calm_mended : (ps : List (List Call)) (w : Row) (o : Option (List Bool)) → Calm ps w → Calm ps (afterMend b o w)
+    calm_mended : (ps : List (List Call)) (w : Row) (o : Option (List Bool)) → Calm ps w → Calm ps (after_mend b o w)
     calm_mended ps w none v = v
     calm_mended ps w (some c) v = ((omega arith, v.0), fresh_zero ps)
 
-    calm_swept : (ps : List (List Call)) (w : Row) → Kept w → Calm ps w → (o : Option (List Bool)) → nearest b s w.cells ≡ o → Calm ([] ∷ ps) (afterMend b o w)
+    calm_swept : (ps : List (List Call)) (w : Row) → Kept w → Calm ps w → (o : Option (List Bool)) → nearest b s w.cells ≡ o → Calm ([] ∷ ps) (after_mend b o w)
     calm_swept ps w v c none e = absurd (not_found b s w.cells e (encode w.written) (reached w v c.0))
     calm_swept ps w v c (some d) e = ((omega arith, c.0), λ _. refl)
 
     calm-struck : (from len : ℕ) (ls : List ℕ) (w : Row) (a : Bool) → OneOf m (cond a (len ∷ ls) ls) → Within s w → (ls ≡ [] → w.newest ≡ 0)
-        → Within s (cond a (afterKnock b (struck b from len r) w) w) × (cond a (len ∷ ls) ls ≡ [] → (cond a (afterKnock b (struck b from len r) w) w).newest ≡ 0)
+        → Within s (cond a (after_knock b (struck b from len r) w) w) × (cond a (len ∷ ls) ls ≡ [] → (cond a (after_knock b (struck b from len r) w) w).newest ≡ 0)
     calm-struck from len ls w true o v f =
         ((omega (arith, gentle from len o.1.0, f (nil_from_length ls (omega (arith, o.0)))), v.1), λ e. absurd (let z : ◌≡◌ {A = ℕ} 0 1 = cc in omega arith))
     calm-struck from len ls w false o v f = (v, f)

@@ -4,7 +4,7 @@ use Rattle.std.proofs.Math.Option.{none, some}
 use Rattle.std.specs.List.{AllByRecursion}
 use Rattle.memory.specs.Lines.{Interleaved}
 use Rattle.galois.specs.Rows.{distance}
-use Rattle.tally.specs.Tally.{Setting, Call, write, read, mend, sweep, knock, Row, dataCellsOf, nearest, after}
+use Rattle.tally.specs.Tally.{Setting, Call, write, read, mend, sweep, knock, Row, data_cells_of, nearest, after}
 
 -- no stretch of a row since its last write has more than m strikes
 abbrev pub Within : ℕ → Row → Type 0
@@ -41,7 +41,7 @@ module _ (b : Setting) where
     pub room : R * n ≤ layout.cells
     pub long : (d : List Bool) → length d ≡ k → length (encode d) ≡ n
     pub coded : (d : List Bool) → length d ≡ k → code (encode d) ≡ true
-    pub back : (d : List Bool) → length d ≡ k → dataCellsOf b (encode d) ≡ d
+    pub back : (d : List Bool) → length d ≡ k → data_cells_of b (encode d) ≡ d
     pub zeros : encode (replicate k false) ≡ replicate n false
     -- two code rows whose distances from one row are together at most 2t are equal
     pub apart : (row c e : List Bool) → length row ≡ n → length c ≡ n → length e ≡ n → code c ≡ true → code e ≡ true
@@ -75,7 +75,7 @@ module _ (b : Setting) where
     -- a sweep is a mend of each row from 0 up
     pub swept : (h : List Call) (r : ℕ) → r < R → after b (sweep ∷ h) r ≡ after b (mends R ++ h) r
     -- where no stretch has over 2t - s strikes, each code row within the reach of the row has the data last written
-    pub true_data : (h : List Call) (r : ℕ) → r < R → Within (2 * t - s) (after b h r) → (c : List Bool) → Near s (after b h r).cells c → dataCellsOf b c ≡ (after b h r).written
+    pub true_data : (h : List Call) (r : ℕ) → r < R → Within (2 * t - s) (after b h r) → (c : List Bool) → Near s (after b h r).cells c → data_cells_of b c ≡ (after b h r).written
     -- where none has over s, the code row of the data last written is within the reach
     pub in_reach : (h : List Call) (r : ℕ) → r < R → Within s (after b h r) → Near s (after b h r).cells (encode (after b h r).written)
     -- on a memory interleaved to depth d, as wide as a row, one knock of at most d * s cells between sweeps leaves no stretch of any row over s

@@ -6,7 +6,7 @@ use Rattle.memory.specs.Mem.{in_run, turned}
 use Rattle.memory.specs.Lines.{Interleaved}
 use Rattle.galois.specs.Lists.{tabulate}
 use Rattle.tally.specs.Rows.{hits}
-use Rattle.tally.specs.Tally.{Setting, Call, write, read, mend, sweep, knock, dataCellsOf, nearest, after}
+use Rattle.tally.specs.Tally.{Setting, Call, write, read, mend, sweep, knock, data_cells_of, nearest, after}
 use Rattle.tally.specs.Buffers.{unpacked}
 use Rattle.tally.specs.Damage.{Lawful, Within, Near, mends, Spaced}
 
@@ -70,7 +70,7 @@ module _ (b : Setting) where
     pub swept : (h : List Call) (now : ℕ → Bool) → Holds (mends R ++ h) now → Holds (sweep ∷ h) now
     pub knocked : (from len : ℕ) (before now : ℕ → Bool) → from + len ≤ layout.span → ((c : ℕ) → c < R * n → now c ≡ turned (in_run from len (layout.place c)) (before c)) → Keeps (knock from len) before now
     pub not_knocked : (from len : ℕ) (before now : ℕ → Bool) → layout.span < from + len → Same before now → Keeps (knock from len) before now
-    pub given : (r : ℕ) (cell : ℕ → Bool) (c : List Bool) → r < R → Near b s (row_of cell r) c → ReadPromise r cell (some (dataCellsOf b c))
+    pub given : (r : ℕ) (cell : ℕ → Bool) (c : List Bool) → r < R → Near b s (row_of cell r) c → ReadPromise r cell (some (data_cells_of b c))
     pub refused : (r : ℕ) (cell : ℕ → Bool) → r < R → ((c : List Bool) → Near b s (row_of cell r) c → ⊥) → ReadPromise r cell none × MendPromise r cell false
     pub counted : (cell : ℕ → Bool) → SweepPromise cell (hits (λ r. is_none (nearest b s (row_of cell r))) R)
 

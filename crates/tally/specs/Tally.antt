@@ -37,8 +37,8 @@ module _ (b : Setting) where
   open b use {n, k, t, s, R, layout, code, encode}
 
   -- the data cells of a row stand above its check cells
-  abbrev pub dataCellsOf : List Bool → List Bool
-  dataCellsOf row = drop (n - k) row
+  abbrev pub data_cells_of : List Bool → List Bool
+  data_cells_of row = drop (n - k) row
 
   -- the first code row within m positions of a row; for m up to t there is at most one
   unfoldable pub nearest : ℕ → List Bool → Option (List Bool)
@@ -49,18 +49,18 @@ module _ (b : Setting) where
   blank = record { cells = replicate n false; written = replicate k false; newest = 0; earlier = [] }
 
   -- written: the code row of the data, which are noted, and one stretch of 0 strikes replaces the others
-  abbrev pub afterWrite : Option (List Bool) → Row → Row
-  afterWrite none w = w
-  afterWrite (some d) w = record { cells = encode d; written = d; newest = 0; earlier = [] }
+  abbrev pub after_write : Option (List Bool) → Row → Row
+  after_write none w = w
+  after_write (some d) w = record { cells = encode d; written = d; newest = 0; earlier = [] }
 
   -- mended: the code row within the reach, and a further stretch begins
-  abbrev pub afterMend : Option (List Bool) → Row → Row
-  afterMend none w = w
-  afterMend (some c) w = record { cells = c; written = w.written; newest = 0; earlier = w.newest ∷ w.earlier }
+  abbrev pub after_mend : Option (List Bool) → Row → Row
+  after_mend none w = w
+  after_mend (some c) w = record { cells = c; written = w.written; newest = 0; earlier = w.newest ∷ w.earlier }
 
   -- knocked: each cell that is hit turns, and is one strike more in the newest stretch
-  abbrev pub afterKnock : (ℕ → Bool) → Row → Row
-  afterKnock hit w = record { cells = turned_by hit w.cells; written = w.written; newest = hits hit n + w.newest; earlier = w.earlier }
+  abbrev pub after_knock : (ℕ → Bool) → Row → Row
+  after_knock hit w = record { cells = turned_by hit w.cells; written = w.written; newest = hits hit n + w.newest; earlier = w.earlier }
 
   -- whether a knock of `len` places from `from` on turns the cell at position j of row r
   abbrev pub struck : ℕ → ℕ → ℕ → ℕ → Bool
@@ -69,11 +69,11 @@ module _ (b : Setting) where
   -- What one call makes of row r, below R. A call with another row number does not concern it. A write of an unfit buffer, a mend with no
   -- code row within the reach and a knock past the span are refused, and leave the row as it is; a read always does. A sweep mends every row.
   abbrev pub step : ℕ → Call → Row → Row
-  step r (write q buffer) w = cond (q == r) (afterWrite (unpacked k buffer) w) w
+  step r (write q buffer) w = cond (q == r) (after_write (unpacked k buffer) w) w
   step r (read q room) w = w
-  step r (mend q) w = cond (q == r) (afterMend (nearest s w.cells) w) w
-  step r sweep w = afterMend (nearest s w.cells) w
-  step r (knock from len) w = cond (nat_le (from + len) layout.span) (afterKnock (struck from len r) w) w
+  step r (mend q) w = cond (q == r) (after_mend (nearest s w.cells) w) w
+  step r sweep w = after_mend (nearest s w.cells) w
+  step r (knock from len) w = cond (nat_le (from + len) layout.span) (after_knock (struck from len r) w) w
 
   -- row r after a list of calls on a book made blank; the last call stands first in the list
   abbrev pub after : List Call → ℕ → Row
