@@ -82,6 +82,16 @@ def respelled(name, heads):
     return "_".join(parts)
 
 
+def prose(line, table):
+    """A comment, with its names respelled: one with a dash only in code quotes, since it may be two English words."""
+
+    def turn(m):
+        quote, word = m.groups()
+        return m.group(0) if word not in table or "-" in word and not quote else quote + table[word]
+
+    return re.sub("(`?)(" + TOKEN.pattern + ")", turn, line)
+
+
 def main():
     files = sorted(p for p in glob.glob(os.path.join(TOP, "crates/**/*.antt"), recursive=True) if "/out/" not in p)
     sources = sorted(p for p in glob.glob(os.path.join(TOP, "crates/**/*.rt"), recursive=True) if "/out/" not in p)
@@ -102,10 +112,8 @@ def main():
     dotted = {old for old in table if old in fields}
 
     def turn(line, note, table, library):
-        at = line.find(note + " ") if line.lstrip().startswith(note) else -1
-        if at >= 0:
-            # in prose only what can't be an English word
-            return re.sub(r"`?" + TOKEN.pattern, lambda m: m.group(0) if m.group(0).strip("`") not in table or "-" in m.group(0) and not m.group(0).startswith("`") else m.group(0).replace(m.group(0).strip("`"), table[m.group(0).strip("`")]), line)
+        if line.lstrip().startswith(note) and note + " " in line:
+            return prose(line, table)
         out, last = [], 0
         for m in TOKEN.finditer(line):
             word = m.group(0)
