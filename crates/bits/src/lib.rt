@@ -3,7 +3,7 @@
 //! A buffer for n bits has (n + 7) div 8 bytes, and its unused high bits are zero.
 #![tactic(auto)]
 
-ghost use Rattle.std.specs.Prelude.{◌≡◌, ℕ, ◌+◌, ◌-◌, ◌*◌, ◌<◌, ◌≤◌, false, not, length};
+ghost use Rattle.std.specs.Prelude.{◌≡◌, ℕ, ◌+◌, ◌-◌, ◌*◌, ◌/◌, ◌<◌, ◌≤◌, false, not, length};
 ghost use Rattle.bits.specs.Bits.{bit_at, turned_at};
 ghost use Rattle.bits.specs.Calls.{Got, Changed, Admitted};
 
@@ -43,11 +43,18 @@ pub fn turn_bit(buffer: &mut [u8], j: usize) -> Result<(), Refusal>
     Ok(())
 }
 
+/// How many bytes a buffer for n bits has.
+pub fn bytes_for(n: u8) -> usize
+    ensures { result ≡ (n + 7) / 8 }
+{
+    usize::from(n).div_ceil(8)
+}
+
 /// Whether a buffer is one for n bits: refused with 7 where its length is wrong, then with 8 where an unused bit is set.
 pub fn check_buffer(buffer: &[u8], n: u8) -> Result<(), Refusal>
     ensures { Admitted n buffer.now result }
 {
-    if buffer.len() != (n as usize + 7) / 8 {
+    if buffer.len() != bytes_for(n) {
         return Err(Refusal::Length);
     }
     for j in n as usize..8 * buffer.len() {
