@@ -1,18 +1,10 @@
 -- The laws of the window and of the interleaver.
-use Rattle.std.proofs.Common.{◌≡◌, ℕ, zero, suc, ◌+◌, ◌*◌, ◌/◌, ◌%◌, ◌<◌, sym, refl, ap, ◌∙◌, mul_assoc, mul_comm, add-mul, arith}
+use Rattle.std.proofs.Common.{◌≡◌, ℕ, zero, suc, ◌+◌, ◌*◌, ◌/◌, ◌%◌, ◌<◌, sym, ap, ◌∙◌, mul_assoc, mul_comm, add-mul, arith}
 use lib.Arith.{digits_lt, digits_div, digits_mod}
-use Rattle.std.proofs.lemmas.Bool.{cond-true, cond_both}
 use Rattle.memory.specs.Mem.{Layout, Mem}
 use Rattle.memory.specs.Lines.{InLine, Interleaved}
-use Rattle.layers.specs.Layers.{window_test, windowed, WindowLaws, InterleaverFits, interleaver_test, interleaved, crossed, InterleaverLaws}
-use Rattle.layers.specs.Crossing.{window_picks, window_figures}
-use Rattle.layers.proofs.Figures.{window_test_lem, interleaver_fits, interleaver_test_lem}
-
--- a window of a line is a line
-window_line : (c l : ℕ) (m : Mem) → InLine m.layout → InLine (windowed c l m).layout
-window_line c l m line k h =
-    let e : c + (k + 1) ≡ c + k + 1 = omega arith in
-    ap m.layout.place e ∙ line (c + k) (omega (arith, (window_picks c l m.layout.cells).into (k + 1) h))
+use Rattle.layers.specs.Layers.{InterleaverFits, interleaved, crossed, InterleaverLaws}
+use Rattle.layers.proofs.Figures.{all_shown, none_shown}
 
 -- the index rule by digits
 by_digits : (d w g i j : ℕ) → i < d → j < w → crossed d w ((g * d + i) * w + j) ≡ g * d * w + j * d + i
@@ -37,7 +29,7 @@ interleaver_line d w m f line = record {
   deep = f.0;
   wide = f.2;
   groups = f.4.0;
-  whole = cond-true _ _ _ (interleaver_test_lem d w m.layout.cells f) ∙ f.4.2;
+  whole = all_shown d w m.layout.cells f ∙ f.4.2;
   first = m.layout.place 0;
   crossed = λ g i j hg hi hj.
       let a : j * d + i < d * w = omega (arith, digits_lt hj hi, mul_comm w d) in
@@ -46,19 +38,10 @@ interleaver_line d w m f line = record {
       ∙ line_place m.layout line (g * d * w + j * d + i) (omega (arith, b, mul_assoc g d w, f.4.2));
 }
 
-pub window_laws : (c l : ℕ) (m : Mem) → WindowLaws c l m
-window_laws c l m = record {
-  fit = λ f. cond-true _ _ _ (window_test_lem c l m.layout.cells f);
-  unfit = λ no-fit. cond_both (window_test c l m.layout.cells) l 0 (λ s. s ≡ 0) (λ e. absurd (no-fit (window_figures c l _ e))) (λ e. refl);
-  cell = λ k. refl;
-  place = λ k. refl;
-  line = window_line c l m;
-}
-
 pub interleaver_laws : (d w : ℕ) (m : Mem) → InterleaverLaws d w m
 interleaver_laws d w m = record {
-  fit = λ f. cond-true _ _ _ (interleaver_test_lem d w m.layout.cells f);
-  unfit = λ no-fit. cond_both (interleaver_test d w m.layout.cells) m.layout.cells 0 (λ s. s ≡ 0) (λ e. absurd (no-fit (interleaver_fits d w _ e))) (λ e. refl);
+  fit = all_shown d w m.layout.cells;
+  unfit = none_shown d w m.layout.cells;
   cell = λ g i j hi hj. ap m.bit (by_digits d w g i j hi hj);
   place = λ g i j hi hj. ap m.layout.place (by_digits d w g i j hi hj);
   line = interleaver_line d w m;

@@ -4,16 +4,14 @@ use Rattle.std.proofs.Common.{sym, ap, ◌∙◌, mul_comm, mul_assoc, arith}
 use Rattle.std.proofs.Math.Arith.{digits_lt, digits_div, digits_mod}
 use Rattle.std.proofs.lemmas.Nat.{div-add-mod', div_below, mod_below}
 use Rattle.std.proofs.lemmas.Bool.{cond_both, leb-true, eqb-true, and_parts}
+use Rattle.std.proofs.lemmas.Bool.Decides.{nat_tests}
 use Rattle.memory.specs.Layered.{Picks}
-use Rattle.layers.specs.Layers.{WindowFits, window_test, window_size, interleaver_test, interleaver_size, crossed}
-
-pub window_figures : (c l n : ℕ) → window_test c l n ≡ true → WindowFits c l n
-window_figures c l n e = let a = and_parts _ _ e in (leb-true _ _ a.0, leb-true _ _ a.1)
+use Rattle.layers.specs.Layers.{window_size, interleaver_test, interleaver_size, crossed}
 
 pub window_picks : (c l n : ℕ) → Picks (window_size c l) (λ n k. c + k) n
 window_picks c l n = record {
-  few = cond_both (window_test c l n) l 0 (λ s. s ≤ n) (λ e. omega (arith, (window_figures c l n e).1)) (λ e. omega arith);
-  into = λ k. cond_both (window_test c l n) l 0 (λ s. k < s → c + k < n) (λ e h. omega (arith, (window_figures c l n e).1)) (λ e h. omega arith);
+  few = grind (arith, nat_tests);
+  into = λ k h. grind (arith, nat_tests);
   once = λ i j hi hj e. omega arith;
 }
 

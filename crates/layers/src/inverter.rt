@@ -6,6 +6,7 @@ ghost use Rattle.layers.specs.Layers.{inverted};
 use memory::Memory;
 use refusal::Refusal;
 
+// No `Selected`: it changes what the cells show and not which they are, and each selection would need a rule for values with it.
 #[derive(Drop)]
 pub struct Inverter<M> {
     pub below: M,

@@ -9,7 +9,7 @@ pub fn fill<M: Memory>(m: &mut M, v: bool)
     ensures { Leaves (M.Memory.means m.old) (M.Memory.means m.new) (λ k. v) }
 {
     for k in 0..m.cells() {
-        let _ = m.put(k, v);
+        m.put(k, v).unwrap();
     }
 }
 
@@ -20,9 +20,7 @@ pub fn copy<A: Memory, B: Memory>(a: &A, b: &mut B) -> u32
 {
     let many = a.cells().min(b.cells());
     for k in 0..many {
-        if let Ok(v) = a.get(k) {
-            let _ = b.put(k, v);
-        }
+        b.put(k, a.get(k).unwrap()).unwrap();
     }
     many
 }

@@ -1,100 +1,65 @@
 //! The window: a stretch of the cells below.
-ghost use Rattle.std.specs.Prelude.{◌≡◌, ◌+◌};
+ghost use Rattle.std.specs.Prelude.{◌≡◌, ℕ, ◌+◌, ◌<◌, ◌≤◌, IsTrue, ◌↔◌, MatchOption};
 ghost use Rattle.refusal.specs.Checks.{Checked};
 ghost use Rattle.refusal.specs.declared.Refusal.TheVariants.{Layer};
-ghost use Rattle.memory.specs.Mem.{Layout, Mem, Sound, Got, Placed, Put, Knocked};
-ghost use Rattle.memory.specs.Layered.{layered, Shown};
-ghost use Rattle.memory.proofs.Layering.{layered-sound};
-ghost use Rattle.layers.specs.Layers.{windowed, window_test, window_size, WindowFits, WindowLaws};
+ghost use Rattle.memory.specs.Mem.{Layout, Mem};
+ghost use Rattle.memory.specs.Layered.{layered, Picks};
+ghost use Rattle.layers.specs.Layers.{windowed, window_size, WindowFits, WindowLaws};
 ghost use Rattle.layers.specs.Crossing.{window_picks};
 
+use crate::selected::{Selected, Selection};
 use memory::Memory;
 use refusal::Refusal;
 
 /// The `length` cells from cell `first` on.
-#[derive(Drop)]
-pub struct Window<M> {
-    pub below: M,
+#[derive(Clone, Copy)]
+pub struct Stretch {
     pub first: u32,
     pub length: u32,
 }
+
+impl Selection for Stretch {
+    ghost Fits = { λ s n. WindowFits s.first s.length n };
+
+    ghost size = { λ s. window_size s.first s.length };
+
+    ghost index = { λ s n k. s.first + k };
+
+    ghost picks = { λ s n. window_picks s.first s.length n };
+
+    fn fits(&self, n: u32) -> bool {
+        self.length >= 1 && self.first <= n && self.length <= n - self.first
+    }
+
+    fn shown(&self, n: u32) -> u32 {
+        if self.fits(n) { self.length } else { 0 }
+    }
+
+    fn cell(&self, n: u32, k: u32) -> Option<u32> {
+        (k < self.shown(n)).then(|| self.first + k)
+    }
+}
+
+/// The layer that shows a stretch of the cells below.
+pub type Window<M> = Selected<M, Stretch>;
 
 impl<M: Memory> Window<M> {
     /// Whether there are `length` cells from cell `first` on, and at least one.
     pub fn check(below: &M, first: u32, length: u32) -> Result<(), Refusal>
         ensures { Checked (WindowFits first length (M.Memory.means below.now).layout.cells) Layer result }
     {
-        if Window::figures_fit(below, first, length) {
-            Ok(())
-        } else {
-            Err(Refusal::Layer)
-        }
-    }
-
-    fn figures_fit(below: &M, first: u32, length: u32) -> bool
-        ensures { result ≡ window_test first length (M.Memory.means below.now).layout.cells }
-    {
-        let n = below.cells();
-        length >= 1 && first <= n && length <= n - first
+        Window::check_figures(below, &Stretch { first, length })
     }
 
     /// The window over `below`; of no cells where the figures do not fit.
     pub fn new(below: M, first: u32, length: u32) -> Window<M>
-        ensures holds { (result.below ≡ below) × ((result.first ≡ first) × (result.length ≡ length)) }
+        ensures holds { (result.below ≡ below) × ((result.figures.first ≡ first) × (result.figures.length ≡ length)) }
+        ensures means { ⟦<Selected<M, Stretch> as Memory>⟧.means result ≡ windowed first length (M.Memory.means below) }
         ensures laws { WindowLaws first length (M.Memory.means below) }
     {
-        Window {
+        Selected {
             below,
-            first,
-            length,
+            figures: Stretch { first, length },
         }
-    }
-
-    /// The cell below that cell `i` is.
-    fn cell_below(&self, i: u32) -> Result<u32, Refusal>
-        ensures { Shown (window_size self.now.first self.now.length) (λ n k. self.now.first + k) (M.Memory.means self.now.below).layout.cells i result }
-    {
-        if i < self.cells() {
-            Ok(self.first + i)
-        } else {
-            Err(Refusal::Cell)
-        }
-    }
-}
-
-impl<M: Memory> Memory for Window<M> {
-    ghost means = { λ s. windowed s.first s.length (M.Memory.means s.below) };
-
-    ghost sound = { λ s. layered-sound (window_size s.first s.length) (λ n k. s.first + k) (M.Memory.means s.below) (window_picks s.first s.length (M.Memory.means s.below).layout.cells) (M.Memory.sound s.below) };
-
-    fn cells(&self) -> u32 {
-        if Window::figures_fit(&self.below, self.first, self.length) {
-            self.length
-        } else {
-            0
-        }
-    }
-
-    fn span(&self) -> u32 {
-        self.below.span()
-    }
-
-    fn get(&self, i: u32) -> Result<bool, Refusal> {
-        let k = self.cell_below(i)?;
-        self.below.get(k)
-    }
-
-    fn place(&self, i: u32) -> Result<u32, Refusal> {
-        let k = self.cell_below(i)?;
-        self.below.place(k)
-    }
-
-    fn put(&mut self, i: u32, v: bool) -> Result<(), Refusal> {
-        let k = self.cell_below(i)?;
-        self.below.put(k, v)
-    }
-
-    fn knock(&mut self, from: u32, length: u32) -> Result<(), Refusal> {
-        self.below.knock(from, length)
     }
 }

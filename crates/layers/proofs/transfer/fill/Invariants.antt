@@ -1,5 +1,9 @@
-use Rattle.layers.proofs.Filling.{Filled}
+use Rattle.std.proofs.Common.{cond, ltb}
+use Rattle.memory.specs.Mem.{Leaves}
 use Rattle.layers.proofs.transfer.fill.Given as goal
 
+-- the first k cells have the value, the others what they had
 abbrev pub invariant-loop-k : goal.invariant-loop-k
-invariant-loop-k g l = Filled (g.M.Memory.means l.initial.m) (g.M.Memory.means l.m) (λ j. l.v) l.k
+invariant-loop-k g l =
+    let means = g.M.Memory.means in
+    Leaves (means l.initial.m) (means l.m) (λ j. cond (ltb j l.k) l.v ((means l.initial.m).bit j))
