@@ -1,5 +1,10 @@
 -- The syndromes of a row buffer once one of its positions is turned.
-use Rattle.std.proofs.Common.{◌≡◌, ℕ, ◌*◌, ◌<◌, Bool, refl, ap, ◌∙◌, arith}
+use Rattle.std.proofs.Common.{◌≡◌, ℕ, ◌*◌, ◌<◌, Bool, true, cond, not, eqb, List, Ok, Err, Result, refl, ap, ◌∙◌, subst, arith}
+use Rattle.std.proofs.lemmas.Bool.{eq-eqb, ne_eqb, false≢true}
+use Rattle.std.specs.Result.{is_ok}
+use Rattle.refusal.specs.declared.Refusal.{Refusal}
+use Rattle.bits.specs.Bits.{bit_at}
+use Rattle.bits.specs.Calls.{Changed}
 use Rattle.galois.specs.Model.{FieldModel, FieldLaws, units, power, product-of}
 use Rattle.galois.proofs.Distances.{Turns}
 use Rattle.galois.proofs.Powers.{cube_is, fifth_is}
@@ -9,6 +14,20 @@ use Rattle.decoding.proofs.Computed.{turned-sum}
 
 three : {a b c x y z : ℕ} → a ≡ x → b ≡ y → c ≡ z → ◌≡◌ {A = Syndromes} (record { s1 = a; s3 = b; s5 = c }) (record { s1 = x; s3 = y; s5 = z })
 three p q r = cc
+
+-- a bit turned over, by what is said of each bit
+pub bits_turn : (before after : List ℕ) (p : ℕ) → ((i : ℕ) → bit_at 8 after i ≡ cond (eqb i p) (not (bit_at 8 before i)) (bit_at 8 before i))
+    → Turns (bit_at 8 before) (bit_at 8 after) p
+bits_turn before after p h = record {
+  here = h p ∙ ap (λ b. cond b (not (bit_at 8 before p)) (bit_at 8 before p)) (eq-eqb p p refl);
+  there = λ i n. h i ∙ ap (λ b. cond b (not (bit_at 8 before i)) (bit_at 8 before i)) (ne_eqb i p n);
+}
+
+-- and by what the call that turned it answers
+pub turn_turns : {U : Type 0} (before after : List ℕ) (p j : ℕ) (r : Result U Refusal) → Changed not before after j r → is_ok r ≡ true → j ≡ p
+    → Turns (bit_at 8 before) (bit_at 8 after) p
+turn_turns before after p j (Ok u) (_, h) is e = subst (Turns (bit_at 8 before) (bit_at 8 after)) e (bits_turn before after j h)
+turn_turns before after p j (Err f) h is e = absurd (false≢true is)
 
 module _ (F : FieldModel) (l : FieldLaws F) where
   pub sums-turned : (c y : ℕ → Bool) (p x : ℕ) (s : Syndromes) → Turns c y p → p < units F → x ≡ power F p → s ≡ syndromes_of F c (units F)

@@ -1,8 +1,10 @@
 -- What corrects rows for one field and one t leaves no choice.
-use Rattle.std.proofs.Common.{◌≡◌, ℕ, zero, suc, ◌+◌, ◌*◌, ◌/◌, ◌%◌, ◌^◌, ◌<◌, ◌≤◌, false, eqb, List, length, get_or, Ok, Err, Result, sym, refl, ap, ◌∙◌, subst, inl, inr, ⊎_elim, arith}
-use Rattle.std.proofs.lemmas.Nat.{pow-add, shr-shr}
-use Rattle.std.proofs.lemmas.List.{get_or_past}
-use Rattle.std.proofs.lemmas.Bool.{cases_lt, false≢true, true≢false}
+use Rattle.std.proofs.Common.{◌≡◌, ℕ, ◌+◌, ◌*◌, ◌/◌, ◌%◌, ◌<◌, ◌≤◌, false, eqb, List, ◌++◌, length, get_or, take, drop, Ok, Err, Result, sym, refl, ap, ◌∙◌, subst, ap₂, inl, inr, ⊎_elim, arith}
+use Rattle.std.proofs.lemmas.Bool.Decides.{nat_tests}
+use Rattle.std.proofs.lemmas.Nat.Bits.{same_from_bits_below}
+use Rattle.std.proofs.Math.Seq.{take-append_seam}
+use Rattle.std.proofs.lemmas.List.{get_or_past, get_or_append_left, append_cancel_right, length-append}
+use Rattle.std.proofs.lemmas.Bool.{cases_lt}
 use Rattle.refusal.specs.declared.Refusal.{Refusal}
 use Rattle.refusal.specs.Order.{Unless, Never}
 use Rattle.refusal.specs.declared.Refusal.TheVariants.{Length, UnusedBit, NoCodeRow}
@@ -16,37 +18,21 @@ use Rattle.decoding.proofs.Within.{cell-tabulate}
 use Rattle.bch.specs.Buffers.{shown}
 use Rattle.bch.proofs.Counts.{units_lt}
 use Rattle.corrector.specs.Corrected.{Corrected}
-use Rattle.corrector.specs.Agreed.{OneCorrection, Compared}
-use Rattle.corrector.specs.declared.comparison.Agreement.TheVariants.{Unlike}
+use Rattle.corrector.specs.Agreed.{Bytes, OneCorrection, Compared}
+use Rattle.corrector.specs.declared.comparison.Agreement.TheVariants.{Alike, Unlike}
 
 -- ---- bytes by their bits
 two : (a b : ℕ) → a < 2 → b < 2 → eqb a 1 ≡ eqb b 1 → a ≡ b
-two zero zero ha hb e = refl
-two zero (suc zero) ha hb e = absurd (false≢true e)
-two (suc zero) zero ha hb e = absurd (true≢false e)
-two (suc zero) (suc zero) ha hb e = refl
-two zero (suc (suc b)) ha hb e = absurd (omega arith)
-two (suc zero) (suc (suc b)) ha hb e = absurd (omega arith)
-two (suc (suc a)) b ha hb e = absurd (omega arith)
-
-next_bit : (x i : ℕ) → bit_of (x / 2) i ≡ bit_of x (suc i)
-next_bit x i = let z : 1 + i ≡ suc i = omega arith in ap (λ q. eqb (q % 2) 1) (shr-shr x 1 i ∙ ap (λ k. x / 2 ^ k) z)
-
-by_bits : (k x y : ℕ) → x < 2 ^ k → y < 2 ^ k → ((i : ℕ) → i < k → bit_of x i ≡ bit_of y i) → x ≡ y
-by_bits zero x y hx hy h = omega arith
-by_bits (suc k) x y hx hy h =
-    let e : suc k ≡ k + 1 = omega arith in
-    let z : 2 ^ suc k ≡ 2 ^ k * 2 = ap (λ n. 2 ^ n) e ∙ pow-add 2 k 1 in
-    let low : x % 2 ≡ y % 2 = two (x % 2) (y % 2) (omega arith) (omega arith) (ap (λ q. eqb (q % 2) 1) (let w : x ≡ x / 1 = omega arith in w) ∙ h 0 (omega arith) ∙ ap (λ q. eqb (q % 2) 1) (let w : y / 1 ≡ y = omega arith in w)) in
-    let high : x / 2 ≡ y / 2 = by_bits k (x / 2) (y / 2) (omega arith) (omega arith) (λ i lt. next_bit x i ∙ h (suc i) (omega arith) ∙ sym (next_bit y i)) in
-    omega arith
+two a b ha hb e = grind (arith, nat_tests)
 
 -- two buffers have the same bits
 abbrev pub SameBits : List ℕ → List ℕ → Type 0
 SameBits a b = (j : ℕ) → bit_at 8 a j ≡ bit_at 8 b j
 
-pub same_byte : (a b : List ℕ) (i : ℕ) → SameBits a b → get_or a i 0 < 256 → get_or b i 0 < 256 → get_or a i 0 ≡ get_or b i 0
-same_byte a b i same ha hb = by_bits 8 (get_or a i 0) (get_or b i 0) ha hb (λ j lt. sym (at a j lt) ∙ same (8 * i + j) ∙ at b j lt)
+same_byte : (a b : List ℕ) (i : ℕ) → SameBits a b → get_or a i 0 < 256 → get_or b i 0 < 256 → get_or a i 0 ≡ get_or b i 0
+same_byte a b i same ha hb =
+    same_from_bits_below 8 (get_or a i 0) (get_or b i 0) ha hb
+    (λ j lt. two _ _ (omega arith) (omega arith) (sym (at a j lt) ∙ same (8 * i + j) ∙ at b j lt))
   where
     at : (a : List ℕ) (j : ℕ) → j < 8 → bit_at 8 a (8 * i + j) ≡ bit_of (get_or a i 0) j
     at a j lt =
@@ -84,7 +70,7 @@ refusals_meet P Q R e f (inr (a, inr (c, inl p))) (inr (b, inr (d, inl q))) = p.
 refusals_meet P Q R e f (inr (a, inr (c, inl p))) (inr (b, inr (d, inr q))) = absurd q.1
 refusals_meet P Q R e f (inr (a, inr (c, inr p))) (inr (b, inr q)) = absurd p.1
 
-pub corrections-meet : (F : FieldModel) → FieldLaws F → (t : ℕ) (before first second : List ℕ) (r s : Result ℕ Refusal) → Corrected F t before first r
+corrections-meet : (F : FieldModel) → FieldLaws F → (t : ℕ) (before first second : List ℕ) (r s : Result ℕ Refusal) → Corrected F t before first r
     → Corrected F t before second s → (r ≡ s) × SameBits first second × (length first ≡ length second)
 corrections-meet F l t before first second (Ok r) (Ok s) (a, b, near, er) (c, d, far, es) =
     let n = units F in
@@ -111,18 +97,43 @@ one_correction F l t before first second r s hf hs C D =
 pub too_long : (F : FieldModel) → FieldLaws F → (t : ℕ) (row : List ℕ) → 32 < length row → Corrected F t row row (Err Length)
 too_long F l t row long = (inl ((λ sized. let z = units_lt F l in omega arith), refl), refl)
 
-module _ (F G : FieldModel) (l : FieldLaws F) (t u : ℕ) (row draft other first second : List ℕ) (r s : Result ℕ Refusal) (ed : draft ≡ row)
-    (eo : other ≡ row) (C : Corrected F t draft first r) (D : Corrected G u other second s) where
+front : (a b : List ℕ) → Bytes (a ++ b) → Bytes a
+front a b h i lt = subst (λ n. n < 256) (get_or_append_left a b 0 i lt) (h i (omega (arith, length-append a b)))
+
+-- two copies of a row, each corrected: drafts with zeros behind them
+module _ (F G : FieldModel) (l : FieldLaws F) (t u : ℕ) (row tail copy other first second : List ℕ) (r s : Result ℕ Refusal) (ec : copy ≡ row ++ tail)
+    (eo : other ≡ row ++ tail) (C : Corrected F t (take (length row) copy) first r) (D : Corrected G u (take (length row) other) second s) where
   here : Corrected F t row first r
-  here = subst (λ a. Corrected F t a first r) ed C
+  here = subst (λ a. Corrected F t a first r) (ap (take (length row)) ec ∙ take-append_seam row tail) C
 
   there : Corrected G u row second s
-  there = subst (λ a. Corrected G u a second s) eo D
+  there = subst (λ a. Corrected G u a second s) (ap (take (length row)) eo ∙ take-append_seam row tail) D
 
-  pub unlike : (r ≡ s → first ≡ second → ⊥) → Compared F t G u row Unlike
-  unlike n = (first, second, r, s, here, there, n)
+  abbrev fore : List ℕ
+  fore = first ++ drop (length row) copy
 
-  pub meet : F ≡ G → t ≡ u → (r ≡ s) × SameBits first second × (length first ≡ length second)
-  meet eF et =
-      corrections-meet F l t row first second r s here
-      (subst (λ k. Corrected F k row second s) (sym et) (subst (λ H. Corrected H u row second s) (sym eF) there))
+  abbrev back : List ℕ
+  back = second ++ drop (length row) other
+
+  tails : drop (length row) copy ≡ drop (length row) other
+  tails = ap (drop (length row)) (ec ∙ sym eo)
+
+  pub told_same : r ≡ s → fore ≡ back → Compared F t G u row Alike
+  told_same e ef =
+      let same : first ≡ second = append_cancel_right first second (drop (length row) copy) (ef ∙ ap (λ a. second ++ a) (sym tails)) in
+      (first, r, here, subst (λ a. Corrected G u row a r) (sym same) (subst (λ a. Corrected G u row second a) (sym e) there))
+
+  pub told_other : (r ≡ s → fore ≡ back → ⊥) → Compared F t G u row Unlike
+  told_other n = (first, second, r, s, here, there, λ e same. n e (ap₂ (λ a b. a ++ b) same tails))
+
+  module _ (eF : F ≡ G) (et : t ≡ u) where
+    also : Corrected F t row second s
+    also = subst (λ k. Corrected F k row second s) (sym et) (subst (λ H. Corrected H u row second s) (sym eF) there)
+
+    pub same_answers : r ≡ s
+    same_answers = (corrections-meet F l t row first second r s here also).0
+
+    pub same_copies : Bytes fore × Bytes back → fore ≡ back
+    same_copies (hf, hs) =
+        let same = one_correction F l t row first second r s (front first _ hf) (front second _ hs) here also in
+        ap₂ (λ a b. a ++ b) same.1 tails

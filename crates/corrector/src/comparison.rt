@@ -1,12 +1,11 @@
 //! Agreement: any two correctors of one meaning give the same answer and leave the same row, for every buffer.
-ghost use Rattle.std.specs.Prelude.{◌≡◌, ℕ, true, length};
-ghost use Rattle.bits.specs.Bits.{bit_at};
+ghost use Rattle.std.specs.Prelude.{◌≡◌, ◌↔◌, IsTrue, ℕ};
 ghost use Rattle.galois.specs.Model.{FieldModel, FieldLaws};
-ghost use Rattle.corrector.specs.Agreed.{OneCorrection, Compared};
+ghost use Rattle.corrector.specs.Agreed.{Bytes, OneCorrection, Compared};
 ghost use Rattle.corrector.specs.declared.comparison.Agreement.TheVariants.{Alike};
 
 use crate::Corrector;
-use refusal::Refusal;
+use crate::copies::padded;
 
 /// Whether two corrections did the same.
 #[derive(Clone, Copy, PartialEq, Eq, Debug)]
@@ -30,39 +29,21 @@ pub fn agree<C: Corrector, D: Corrector>(c: &C, d: &D, row: &[u8]) -> Agreement
     if row.len() > 32 {
         return Agreement::Alike;
     }
-    let mut copy = [0u8; 32];
-    let mut other_copy = [0u8; 32];
-    let first = &mut copy[0..row.len()];
-    let second = &mut other_copy[0..row.len()];
-    first.copy_from_slice(row);
-    second.copy_from_slice(row);
-    let one = c.correct(first);
-    let two = d.correct(second);
-    if same_answer(one, two) && same_bytes(first, second) {
+    let mut first = padded(row);
+    let mut second = padded(row);
+    let one = c.correct(&mut first[..row.len()]);
+    let two = d.correct(&mut second[..row.len()]);
+    if one == two && same_bytes(&first, &second) {
         Agreement::Alike
     } else {
         Agreement::Unlike
     }
 }
 
-fn same_answer(one: Result<u8, Refusal>, two: Result<u8, Refusal>) -> bool
-    ensures is { result ≡ true → one ≡ two }
-    ensures told { one ≡ two → result ≡ true }
-{
-    one == two
-}
-
+// Not `first == second` in `agree`: the proof is told that a list holds bytes only where a parameter is one.
 fn same_bytes(first: &[u8], second: &[u8]) -> bool
-    ensures is { result ≡ true → first.now ≡ second.now }
-    ensures told { length first.now ≡ length second.now → ((j : ℕ) → bit_at 8 first.now j ≡ bit_at 8 second.now j) → result ≡ true }
+    ensures same { IsTrue result ↔ first.now ≡ second.now }
+    ensures bytes { Bytes first.now × Bytes second.now }
 {
-    if first.len() != second.len() {
-        return false;
-    }
-    for i in 0..first.len() {
-        if first[i] != second[i] {
-            return false;
-        }
-    }
-    true
+    first == second
 }

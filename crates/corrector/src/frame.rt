@@ -1,29 +1,24 @@
 //! The frame of a corrector that searches: the tests of the buffer, the row that is a code row already, and a search on a copy, so that a
 //! refusal leaves every byte whatever the search has turned.
-ghost use Rattle.std.specs.Prelude.{◌≡◌, ℕ};
+ghost use Rattle.std.specs.Prelude.{◌≡◌};
 ghost use Rattle.galois.specs.Rows.{Few};
-ghost use Rattle.corrector.specs.Corrected.{Corrected};
+ghost use Rattle.corrector.specs.Corrected.{Strength};
 ghost use Rattle.corrector.specs.Searched.{clean, Searches};
 
+use crate::Corrector;
+use crate::copies::padded;
 use bch::row_cells;
 use bits::check_buffer;
 use field::{Field, Syndromes};
 use refusal::Refusal;
+use std::marker::PhantomData;
 
-/// A search for the code row within t positions of a row.
-pub trait Search: Field {
-    ghost strength: { Self → ℕ };
-
-    ghost few: { (s : Self) → Few (strength s) };
-
-    /// t, the most errors that are searched for.
-    fn most(&self) -> u8
-        ensures { result ≡ strength self.now };
-
+/// A way of searching for the code row within t positions of a row.
+pub trait Search {
     /// Makes a row, whose syndromes are handed over, the code row within t positions and answers how many cells that turns; None where there
     /// is no such row, and what is left in the buffer is then of no account.
-    fn search(&self, sums: Syndromes, row: &mut [u8]) -> Option<u8>
-        ensures { Searches (Self.Field.model self.now) (strength self.now) sums row.old row.new result };
+    fn search<F: Field>(f: &F, t: u8, sums: Syndromes, row: &mut [u8]) -> Option<u8>
+        ensures { Few t → Searches (F.Field.model f.now) t sums row.old row.new result };
 }
 
 /// Whether the first t syndromes are zero.
@@ -33,23 +28,88 @@ pub fn is_clean(sums: Syndromes, t: u8) -> bool
     sums.s1 == 0 && (t < 2 || sums.s3 == 0) && (t < 3 || sums.s5 == 0)
 }
 
-/// Corrects a row by a search.
-pub fn correct_row<S: Search>(s: &S, row: &mut [u8]) -> Result<u8, Refusal>
-    ensures { Corrected (S.Field.model s.now) (S.Search.strength s.now) row.old row.new result }
-{
-    check_buffer(row, row_cells(s))?;
-    let sums = s.syndromes(row);
-    if is_clean(sums, s.most()) {
-        return Ok(0);
-    }
-    let mut copy = [0u8; 32];
-    let draft = &mut copy[0..row.len()];
-    draft.copy_from_slice(row);
-    match s.search(sums, draft) {
-        Some(count) => {
-            row.copy_from_slice(draft);
-            Ok(count)
+/// Corrects up to t errors by the search S, in any field.
+#[derive(Drop)]
+pub struct SearchCorrector<F, S> {
+    field: F,
+    t: u8,
+    way: PhantomData<S>,
+    ghost few: { Few t },
+}
+
+impl<F: Field, S: Search> SearchCorrector<F, S> {
+    /// The corrector of t errors over a field; of one error where t does not fit.
+    pub fn new(field: F, t: u8) -> Self
+        ensures { (result.field ≡ field) × Strength t result.t }
+    {
+        SearchCorrector {
+            field,
+            t: match t {
+                1..=3 => t,
+                _ => 1,
+            },
+            way: PhantomData,
         }
-        None => Err(Refusal::NoCodeRow),
+    }
+}
+
+impl<F: Field, S: Search> Field for SearchCorrector<F, S> {
+    ghost model = { λ s. F.Field.model s.field };
+
+    ghost lawful = { λ s. F.Field.lawful s.field };
+
+    fn degree(&self) -> u8 {
+        self.field.degree()
+    }
+
+    fn alpha(&self) -> u8 {
+        self.field.alpha()
+    }
+
+    fn add(&self, a: u8, b: u8) -> u8 {
+        self.field.add(a, b)
+    }
+
+    fn mul(&self, a: u8, b: u8) -> u8 {
+        self.field.mul(a, b)
+    }
+
+    fn inverse(&self, a: u8) -> u8 {
+        self.field.inverse(a)
+    }
+
+    fn exponent(&self, a: u8) -> u8 {
+        self.field.exponent(a)
+    }
+
+    fn turned(&self, sums: Syndromes, x: u8) -> Syndromes {
+        self.field.turned(sums, x)
+    }
+
+    fn syndromes(&self, row: &[u8]) -> Syndromes {
+        self.field.syndromes(row)
+    }
+}
+
+impl<F: Field, S: Search> Corrector for SearchCorrector<F, S> {
+    ghost strength = { λ s. s.t };
+
+    ghost few = { λ s. s.few };
+
+    fn corrects(&self) -> u8 {
+        self.t
+    }
+
+    fn correct(&self, row: &mut [u8]) -> Result<u8, Refusal> {
+        check_buffer(row, row_cells(&self.field))?;
+        let sums = self.field.syndromes(row);
+        if is_clean(sums, self.t) {
+            return Ok(0);
+        }
+        let mut copy = padded(row);
+        let draft = &mut copy[..row.len()];
+        let count = S::search(&self.field, self.t, sums, draft).ok_or(Refusal::NoCodeRow)?;
+        row.copy_from_slice(draft);
+        Ok(count)
     }
 }

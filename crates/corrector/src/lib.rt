@@ -12,10 +12,11 @@ use field::Field;
 use refusal::Refusal;
 
 pub mod comparison;
+mod copies;
 pub mod frame;
 
 pub use comparison::{Agreement, agree, corrections_agree};
-pub use frame::{Search, correct_row, is_clean};
+pub use frame::{Search, SearchCorrector, is_clean};
 
 /// A corrector is a field too: it answers its field's questions.
 pub trait Corrector: Field {

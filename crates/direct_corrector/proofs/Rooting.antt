@@ -1,6 +1,7 @@
 -- What the search by roots knows before a position, and how a turn carries it to the next.
-use Rattle.std.proofs.Common.{◌≡◌, ℕ, ◌+◌, ◌*◌, ◌<◌, ◌≤◌, true, false, ◌≢◌, List, length, Some, None, sym, refl, ap, ◌∙◌, subst, ap₂, arith}
-use Rattle.bits.specs.Bits.{bit_at, turned_at}
+use Rattle.std.proofs.Common.{◌≡◌, ℕ, ◌+◌, ◌<◌, ◌≤◌, Bool, true, false, ◌≢◌, List, Some, None, sym, refl, ap, ◌∙◌, subst, ap₂, arith}
+use Rattle.std.specs.Bool.{then_some}
+use Rattle.bits.specs.Bits.{bit_at}
 use Rattle.galois.specs.Model.{FieldModel, FieldLaws, size, units, power}
 use Rattle.galois.specs.Ring.{numbers}
 use Rattle.galois.specs.Rows.{Few}
@@ -12,7 +13,7 @@ use Rattle.decoding.specs.Locators.{cubic, Locates}
 use Rattle.decoding.proofs.Computed.{cubic-is}
 use Rattle.decoding.proofs.Tracks.{Track, track_start, track_found, track_none, track_many, found_at_once, found-near, none_near}
 use Rattle.decoding.proofs.RootSearch.{root_turn, root_leave}
-use Rattle.decoding.proofs.Turning.{turned-turns}
+use Rattle.galois.proofs.Distances.{Turns}
 use Rattle.corrector.specs.Searched.{clean, Searched, Elements}
 use Rattle.corrector.proofs.Framing.{clean-code, not_clean}
 use Rattle.corrector.proofs.Turned.{sums-turned}
@@ -45,22 +46,20 @@ module _ (F : FieldModel) (l : FieldLaws F) (t : ℕ) (few : Few t) (start : Lis
     found = subst (λ (s : Syndromes). Located F t s lower) es L few elements
 
     module _ (row after : List ℕ) (p x count v : ℕ) (left : Syndromes) (K : Known F t start row p count left) (lt : p < units F)
-        (room : p < 8 * length row) (ex : x ≡ power F p) (ev : v ≡ value_at F s.s1 lower.second lower.third x) where
+        (ex : x ≡ power F p) (ev : v ≡ value_at F s.s1 lower.second lower.third x) where
       value : v ≡ cubic (numbers F) sums.s1 lower.second lower.third (power F p)
       value =
           ev ∙ ap₂ (λ y z. value_at F y lower.second lower.third z) (ap (λ (v : Syndromes). v.s1) es) ex
           ∙ cubic-is F l sums.s1 lower.second lower.third (power F p) _ _ _ _ _ elements.0 found.0 found.1 (power-lt F l p) refl refl refl refl refl
 
-      pub known_turn : (count' : ℕ) (left' : Syndromes) → v ≡ 0 → after ≡ turned_at 8 row p → count' ≡ count + 1 → left' ≡ with_turn F left x
+      pub known_turn : (count' : ℕ) (left' : Syndromes) → v ≡ 0 → Turns (bit_at 8 row) (bit_at 8 after) p → count' ≡ count + 1 → left' ≡ with_turn F left x
           → Known F t start after (p + 1) count' left'
-      known_turn count' left' z er en el =
-          subst (λ r. Known F t start r (p + 1) count' left') (sym er)
-          (record {
-            track = subst (λ n. Track F t (bit_at 8 start) (bit_at 8 (turned_at 8 row p)) (p + 1) n) (sym en)
-                (root_turn F l t few (bit_at 8 start) (not_clean F t few (bit_at 8 start) s es errors) lower.second lower.third found.0 found.1
-                found.2 (bit_at 8 row) p count v K.track lt value (bit_at 8 (turned_at 8 row p)) (turned-turns row p room) z);
-            sums = el ∙ sums-turned F l (bit_at 8 row) (bit_at 8 (turned_at 8 row p)) p x left (turned-turns row p room) lt ex K.sums;
-          })
+      known_turn count' left' z turn en el = record {
+        track = subst (λ n. Track F t (bit_at 8 start) (bit_at 8 after) (p + 1) n) (sym en)
+            (root_turn F l t few (bit_at 8 start) (not_clean F t few (bit_at 8 start) s es errors) lower.second lower.third found.0 found.1
+            found.2 (bit_at 8 row) p count v K.track lt value (bit_at 8 after) turn z);
+        sums = el ∙ sums-turned F l (bit_at 8 row) (bit_at 8 after) p x left turn lt ex K.sums;
+      }
 
       pub known_leave : (count' : ℕ) (left' : Syndromes) → v ≢ 0 → after ≡ row → count' ≡ count → left' ≡ left
           → Known F t start after (p + 1) count' left'
@@ -74,16 +73,21 @@ module _ (F : FieldModel) (l : FieldLaws F) (t : ℕ) (few : Few t) (start : Lis
           })
 
   module _ (row : List ℕ) (p count : ℕ) (left : Syndromes) (K : Known F t start row p count left) (end : p ≡ units F) where
-    pub known_found : count ≤ t → clean t left ≡ true → Searched F t start row (Some count)
+    known_found : count ≤ t → clean t left ≡ true → Searched F t start row (Some count)
     known_found le h =
         let near = found-near F t (bit_at 8 start) (bit_at 8 row) count
         (track_found F t (bit_at 8 start) (bit_at 8 row) p count K.track (clean-code F t few (bit_at 8 row) left K.sums h) le) in
         (near.0, near.1, λ j u. K.track.later j (omega arith))
 
-    pub known_none : clean t left ≡ false → Searched F t start row None
+    known_none : clean t left ≡ false → Searched F t start row None
     known_none h =
         none_near F t (bit_at 8 start)
         (track_none F t (bit_at 8 start) (bit_at 8 row) p count end K.track (not_clean F t few (bit_at 8 row) left K.sums h))
+
+    -- the last check passes where the row is clean and not more than t cells were turned
+    pub known_checked : (b : Bool) → b ≡ clean t left → count ≤ t → Searched F t start row (then_some b count)
+    known_checked true e le = known_found le (sym e)
+    known_checked false e le = known_none (sym e)
 
     pub known_many : t < count → Searched F t start row None
     known_many many = none_near F t (bit_at 8 start) (track_many F t (bit_at 8 start) (bit_at 8 row) p count end K.track many)

@@ -1,100 +1,35 @@
-//! The corrector itself: a field and a t.
-ghost use Rattle.std.specs.Prelude.{◌≡◌};
-ghost use Rattle.galois.specs.Rows.{Few};
-ghost use Rattle.corrector.specs.Corrected.{Strength};
-
-use crate::roots::search_by_roots;
+//! The corrector itself, and its search: each position whose element is a root of the locator is turned, and the last check is on the
+//! syndromes.
+use crate::locator::{locator_of, value_at};
 use bch::row_cells;
-use corrector::{Corrector, Search, correct_row};
+use bits::turn_bit;
+use corrector::{Search, SearchCorrector, is_clean};
 use field::{Field, Syndromes};
-use refusal::Refusal;
+
+/// The search by the roots of the error locator.
+pub struct Roots;
 
 /// Corrects up to t errors by the roots of the error locator, in any field.
-#[derive(Drop)]
-pub struct DirectCorrector<F> {
-    field: F,
-    t: u8,
-    ghost few: { Few t },
-}
+pub type DirectCorrector<F> = SearchCorrector<F, Roots>;
 
-impl<F: Field> DirectCorrector<F> {
-    /// The corrector of t errors over a field; of one error where t does not fit.
-    pub fn new(field: F, t: u8) -> Self
-        ensures { (result.field ≡ field) × Strength t result.t }
-    {
-        match t {
-            1..=3 => DirectCorrector { field, t },
-            _ => DirectCorrector { field, t: 1 },
+impl Search for Roots {
+    fn search<F: Field>(f: &F, t: u8, sums: Syndromes, row: &mut [u8]) -> Option<u8> {
+        if is_clean(sums, t) {
+            return Some(0);
         }
-    }
-}
-
-impl<F: Field> Field for DirectCorrector<F> {
-    ghost model = { λ s. F.Field.model s.field };
-
-    ghost lawful = { λ s. F.Field.lawful s.field };
-
-    fn degree(&self) -> u8 {
-        self.field.degree()
-    }
-
-    fn alpha(&self) -> u8 {
-        self.field.alpha()
-    }
-
-    fn add(&self, a: u8, b: u8) -> u8 {
-        self.field.add(a, b)
-    }
-
-    fn mul(&self, a: u8, b: u8) -> u8 {
-        self.field.mul(a, b)
-    }
-
-    fn inverse(&self, a: u8) -> u8 {
-        self.field.inverse(a)
-    }
-
-    fn exponent(&self, a: u8) -> u8 {
-        self.field.exponent(a)
-    }
-
-    fn turned(&self, sums: Syndromes, x: u8) -> Syndromes {
-        self.field.turned(sums, x)
-    }
-
-    fn syndromes(&self, row: &[u8]) -> Syndromes {
-        self.field.syndromes(row)
-    }
-}
-
-impl<F: Field> Search for DirectCorrector<F> {
-    ghost strength = { λ s. s.t };
-
-    ghost few = { λ s. s.few };
-
-    fn most(&self) -> u8 {
-        self.t
-    }
-
-    fn search(&self, sums: Syndromes, row: &mut [u8]) -> Option<u8> {
-        let n = row_cells(&self.field);
-        if row.len() != (n as usize + 7) / 8 {
-            return None;
+        let alpha = f.alpha();
+        let lower = locator_of(f, t, sums);
+        let mut left = sums;
+        let mut x = 1;
+        let mut count = 0u8;
+        for p in 0..row_cells(f) {
+            if value_at(f, sums.s1, lower, x) == 0 {
+                turn_bit(row, usize::from(p)).ok()?;
+                left = f.turned(left, x);
+                count += 1;
+            }
+            x = f.mul(alpha, x);
         }
-        search_by_roots(&self.field, self.t, sums, row, n)
-    }
-}
-
-impl<F: Field> Corrector for DirectCorrector<F> {
-    ghost strength = { λ s. s.t };
-
-    ghost few = { λ s. s.few };
-
-    fn corrects(&self) -> u8 {
-        self.t
-    }
-
-    fn correct(&self, row: &mut [u8]) -> Result<u8, Refusal> {
-        correct_row(self, row)
+        (count <= t && is_clean(left, t)).then_some(count)
     }
 }

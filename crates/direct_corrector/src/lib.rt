@@ -5,7 +5,6 @@
 
 pub mod direct;
 pub mod locator;
-mod roots;
 
-pub use direct::DirectCorrector;
+pub use direct::{DirectCorrector, Roots};
 pub use locator::locator_of;

@@ -1,6 +1,6 @@
 -- The class by the list of cases is the class of the syndromes.
-use Rattle.std.proofs.Common.{◌≡◌, ℕ, zero, suc, ◌≤◌, Bool, true, false, cond, ◌&&◌, eqb, ◌≢◌, [], refl, ap, ◌∙◌, ap₂, arith}
-use Rattle.std.proofs.lemmas.Bool.{false≢true, eq-eqb}
+use Rattle.std.proofs.Common.{◌≡◌, ℕ, zero, suc, ◌+◌, ◌≤◌, Bool, true, false, cond, ◌&&◌, eqb, ◌≢◌, [], refl, ap, ◌∙◌, ap₂, arith}
+use Rattle.std.proofs.lemmas.Bool.{false≢true, and_parts, and_from, eqb-true, eq-eqb, ltb-true, lt-ltb}
 use Rattle.galois.specs.Model.{FieldModel, FieldLaws}
 use Rattle.galois.specs.Ring.{numbers}
 use Rattle.galois.specs.Rows.{Few}
@@ -65,42 +65,14 @@ listed F t s k b d2 d3 eb ek e2 e3 =
 
 -- ---- falling by one
 pub falls-true : (a b : Class) → falls a b ≡ true → (suc (number b) ≡ number a) × (number a ≤ 3)
-falls-true One Clean h = (refl, omega arith)
-falls-true Two One h = (refl, omega arith)
-falls-true Three Two h = (refl, omega arith)
-falls-true Clean b h = absurd (false≢true h)
-falls-true One One h = absurd (false≢true h)
-falls-true One Two h = absurd (false≢true h)
-falls-true One Three h = absurd (false≢true h)
-falls-true One Beyond h = absurd (false≢true h)
-falls-true Two Clean h = absurd (false≢true h)
-falls-true Two Two h = absurd (false≢true h)
-falls-true Two Three h = absurd (false≢true h)
-falls-true Two Beyond h = absurd (false≢true h)
-falls-true Three Clean h = absurd (false≢true h)
-falls-true Three One h = absurd (false≢true h)
-falls-true Three Three h = absurd (false≢true h)
-falls-true Three Beyond h = absurd (false≢true h)
-falls-true Beyond b h = absurd (false≢true h)
+falls-true a b h =
+    let both = and_parts _ _ h in
+    let e = eqb-true (number b + 1) (number a) both.0 in
+    let lt = ltb-true (number a) 4 both.1 in
+    (omega arith, omega arith)
 
 pub falls-from : (a b : Class) → suc (number b) ≡ number a → number a ≤ 3 → falls a b ≡ true
-falls-from One Clean h u = refl
-falls-from Two One h u = refl
-falls-from Three Two h u = refl
-falls-from Clean b h u = absurd (omega arith)
-falls-from One One h u = absurd (omega arith)
-falls-from One Two h u = absurd (omega arith)
-falls-from One Three h u = absurd (omega arith)
-falls-from One Beyond h u = absurd (omega arith)
-falls-from Two Clean h u = absurd (omega arith)
-falls-from Two Two h u = absurd (omega arith)
-falls-from Two Three h u = absurd (omega arith)
-falls-from Two Beyond h u = absurd (omega arith)
-falls-from Three Clean h u = absurd (omega arith)
-falls-from Three One h u = absurd (omega arith)
-falls-from Three Three h u = absurd (omega arith)
-falls-from Three Beyond h u = absurd (omega arith)
-falls-from Beyond b h u = absurd (omega arith)
+falls-from a b e u = and_from _ _ (eq-eqb (number b + 1) (number a) (omega arith)) (lt-ltb (number a) 4 (omega arith))
 
 pub not_clean : (a : Class) → (a ≡ Clean → ⊥) → number a ≢ 0
 not_clean Clean h e = h refl

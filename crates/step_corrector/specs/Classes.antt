@@ -1,5 +1,5 @@
 -- The class of a row by t, by whether its first t syndromes are zero, and by which determinants vanish.
-use Rattle.std.specs.Prelude.{ℕ, zero, suc, Bool, true, false, ◌==◌}
+use Rattle.std.specs.Prelude.{ℕ, zero, suc, ◌+◌, Bool, true, false, ◌&&◌, ◌==◌, nat_lt}
 use Rattle.galois.specs.Model.{FieldModel}
 use Rattle.galois.specs.Ring.{numbers}
 use Rattle.galois.specs.Sums.{D2, D3}
@@ -38,20 +38,4 @@ class_for F t s =
 
 -- the class falls by exactly one, and not from beyond
 abbrev pub falls : Class → Class → Bool
-falls Clean b = false
-falls One Clean = true
-falls One One = false
-falls One Two = false
-falls One Three = false
-falls One Beyond = false
-falls Two Clean = false
-falls Two One = true
-falls Two Two = false
-falls Two Three = false
-falls Two Beyond = false
-falls Three Clean = false
-falls Three One = false
-falls Three Two = true
-falls Three Three = false
-falls Three Beyond = false
-falls Beyond b = false
+falls a b = (number b + 1 == number a) && nat_lt (number a) 4

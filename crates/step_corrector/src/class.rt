@@ -65,25 +65,12 @@ fn class_by(t: u8, clean: bool, d: Vanishing) -> Class
     }
 }
 
-/// Whether a class falls by exactly one to that of the syndromes. One error less than one is a code row, which is told without determinants.
-pub(crate) fn falls_to<F: Field>(f: &F, t: u8, before: Class, sums: Syndromes) -> bool
-    ensures { Elements (F.Field.model f.now) sums → result ≡ falls before (class_for (F.Field.model f.now) t sums) }
-{
-    match before {
-        Class::One => is_clean(sums, t),
-        Class::Two | Class::Three => falls_by_one(before, class_of(f, t, sums)),
-        _ => false,
-    }
-}
-
 /// Whether a class falls by exactly one; from beyond none does.
-fn falls_by_one(before: Class, after: Class) -> bool
+pub(crate) fn falls_by_one(before: Class, after: Class) -> bool
     ensures { result ≡ falls before after }
 {
-    match (before, after) {
-        (Class::One, Class::Clean) => true,
-        (Class::Two, Class::One) => true,
-        (Class::Three, Class::Two) => true,
-        _ => false,
-    }
+    matches!(
+        (before, after),
+        (Class::One, Class::Clean) | (Class::Two, Class::One) | (Class::Three, Class::Two)
+    )
 }

@@ -10,4 +10,4 @@ mod trial;
 mod trials;
 
 pub use class::{Class, class_of};
-pub use stepwise::StepCorrector;
+pub use stepwise::{StepCorrector, Steps};

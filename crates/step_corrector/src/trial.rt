@@ -1,6 +1,8 @@
-//! A position turned on trial: where the trial ends the cell is turned back, unless the turn was kept.
+//! A position turned on trial: where the trial ends the cell is turned back, unless the turn was kept. A position past the row turns nothing.
 ghost use Rattle.std.specs.Prelude.{◌≡◌, ◌*◌, ◌<◌, length};
-ghost use Rattle.bits.specs.Bits.{turned_at};
+ghost use Rattle.step_corrector.specs.Trials.{Turned};
+
+use bits::turn_bit;
 
 pub(crate) struct Trial<'a> {
     row: &'a mut [u8],
@@ -9,24 +11,20 @@ pub(crate) struct Trial<'a> {
 
 impl Drop for Trial<'_> {
     fn drop(self)
-        requires { self.position < 8 * length self.row.now }
-        ensures { self.exit.0.now ≡ turned_at 8 self.entry.row.now self.entry.position }
+        ensures { Turned self.entry.row.now self.exit.0.now self.entry.position }
     {
-        self.row[self.position / 8] ^= 1 << (self.position % 8);
-        let Trial {
-            row: _,
-            position: _,
-        } = self;
+        let Trial { row, position } = self;
+        let _ = turn_bit(row, position);
     }
 }
 
 impl<'a> Trial<'a> {
     pub(crate) fn new(row: &'a mut [u8], position: usize) -> Trial<'a>
-        requires { position < 8 * length row.old }
-        ensures turned { (result.row.now ≡ turned_at 8 row.old position) × (result.position ≡ position) }
+        ensures turned { Turned row.old result.row.now position }
+        ensures placed { (result.position ≡ position) × (length result.row.now ≡ length row.old) }
         ensures lent { result.row.ghost_name ≡ row.entry.ghost_name }
     {
-        row[position / 8] ^= 1 << (position % 8);
+        let _ = turn_bit(row, position);
         Trial { row, position }
     }
 

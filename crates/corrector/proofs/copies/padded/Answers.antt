@@ -1,0 +1,6 @@
+use Rattle.std.proofs.Common.{◌++◌, length, ap₂}
+use Rattle.std.proofs.lemmas.List.{drop-replicate}
+use Rattle.corrector.proofs.copies.padded.Goals as goal
+
+pub returns : goal.returns
+returns c = ap₂ (λ xs ys. xs ++ ys) c.copy_from_slice.ensures.after (drop-replicate (length c.args.row.now) 32 0)
