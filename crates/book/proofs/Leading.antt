@@ -38,6 +38,13 @@ pub record SameFigures (b b' : BookModel) : Type 0 where
   pub reach : b'.reach ≡ b.reach
   pub rows : b'.rows ≡ b.rows
 
+-- the book b with other cells
+abbrev pub at : BookModel → Mem → BookModel
+at b m = record { field = b.field; strength = b.strength; reach = b.reach; rows = b.rows; memory = m }
+
+pub moved : (b : BookModel) (m m' : Mem) → SameFigures (at b m) (at b m')
+moved b m m' = record { field = refl; strength = refl; reach = refl; rows = refl }
+
 pub settings_same : (b b' : BookModel) → SameFigures b b' → b'.memory.layout ≡ b.memory.layout → setting b' ≡ setting b
 settings_same b b' same e = λ x. setting_at (same.field x) (same.strength x) (same.reach x) (same.rows x) (e x)
 

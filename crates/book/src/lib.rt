@@ -20,7 +20,7 @@ pub struct Book<C, M> {
 }
 
 /// What a sweep did: how many rows it mended, how many had no code row within the reach, and how many cells turned.
-#[derive(Clone, Copy)]
+#[derive(Clone, Copy, PartialEq, Eq, Default, Debug)]
 pub struct SweepCounts {
     pub accepted: u32,
     pub refused: u32,

@@ -1,6 +1,5 @@
 use Rattle.book.specs.Meaning.{meaning}
-use Rattle.book.proofs.Leading.{knock_call, kept_self}
-use Rattle.book.proofs.Sweeping.{at, moved}
+use Rattle.book.proofs.Leading.{at, moved, knock_call, kept_self}
 use Rattle.book.proofs.Book.knock.Goals as goal
 
 pub returns : goal.returns
