@@ -46,12 +46,6 @@ module _ (b : BookModel) where
     pub row_room : r * row_size b + row_size b ≤ b.memory.layout.cells
     row_room = omega (arith, row_ends, rows_room)
 
-    pub row_first : FieldLaws b.field → r * row_size b < 262144
-    row_first laws =
-        let small = units_lt b.field laws in
-        let few : r * row_size b ≤ 1024 * row_size b = mul-le-mul_right (row_size b) (let le : r ≤ 1024 = omega (arith, rows_few) in le) in
-        omega arith
-
   -- the tally's laws hold of every book
   pub book_lawful : FieldLaws b.field → Few b.strength → Lawful (setting b)
   book_lawful laws few = (field_codes b.field laws b.strength few).lawful (reach_of b) (rows_of b) b.memory.layout reach_within rows_room

@@ -58,19 +58,6 @@ pub record SweptTo (b : BookModel) (m : Mem) (i accepted refused turned : ℕ) :
   pub far : refused ≡ hits (λ r. is_none (nearest (setting b) (reach_of b) (row_cells b r))) i
   pub changed : turned ≡ total (λ r. distance (row_cells b r) (row_cells (at b m) r)) i
 
-pub swept_none : (b : BookModel) → SweptTo b b.memory 0 0 0 0
-swept_none b = record {
-  layout = refl;
-  held = λ h v. v;
-  rows = λ r l. absurd (omega arith);
-  rest = λ q _ _. refl;
-  there = λ c _ _. refl;
-  beneath = λ x _ _. refl;
-  all = refl;
-  far = refl;
-  changed = refl;
-}
-
 module _ (b : BookModel) (laws : FieldLaws b.field) (few : Few b.strength) (m m' : Mem) (i accepted refused turned : ℕ) (l : i < rows_of b)
     (w : SweptTo b m i accepted refused turned) where
   same_setting : setting (at b m) ≡ setting b

@@ -22,7 +22,7 @@ impl<C: Corrector, M: Memory> Book<C, M> {
     {
         let first = self.first_cell(row)?;
         let n = self.row_cells();
-        let mut buffer = [0u8; 32];
+        let mut buffer = [0u8; 32]; // no heap: room for any row
         let code_row = &mut buffer[..bytes_for(n)];
         encode(&self.corrector, self.corrects(), bytes, code_row)?;
         scatter(&mut self.memory, first, n, code_row)

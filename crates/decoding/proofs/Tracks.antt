@@ -97,11 +97,3 @@ module _ (F : FieldModel) (t : ℕ) where
 
   pub none_near : (c : ℕ → Bool) → NoneWithin F t c → (d : List Bool) → Near F t (tabulate c (units F)) d → ⊥
   none_near c none d N = none (cell_of d) (tabulate-near F t c d N)
-
--- there is no other to be found
-pub found_only : (F : FieldModel) → FieldLaws F → (t : ℕ) (c x d : ℕ → Bool) (count : ℕ) → Found F t c x count → Within F t c d
-    → (j : ℕ) → j < units F → x j ≡ d j
-found_only F l t c x d count R W =
-    apart-zero x d (units F)
-    (code_apart F l t x d R.within.code W.code
-    (let a = R.within.close in let b = W.close in let w = apart-triangle c x d (units F) in omega arith))

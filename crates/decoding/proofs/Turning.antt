@@ -7,9 +7,6 @@ use Rattle.bits.specs.Bits.{bit_at, turned_at}
 use Rattle.bits.proofs.Turning.{bit_at-turned_at}
 use Rattle.galois.proofs.Distances.{Turns}
 
-pub turned-length : (buffer : List ℕ) (k : ℕ) → length (turned_at 8 buffer k) ≡ length buffer
-turned-length buffer k = simp length-set
-
 pub turned-turns : (buffer : List ℕ) (k : ℕ) → k < 8 * length buffer → Turns (bit_at 8 buffer) (bit_at 8 (turned_at 8 buffer k)) k
 turned-turns buffer k lt = record {
   here = bit_at-turned_at 8 buffer k k (omega arith) ∙ ap (λ b. cond b (not (bit_at 8 buffer k)) (bit_at 8 buffer k)) (eq-eqb k k refl);

@@ -17,9 +17,6 @@ module _ (b : BookModel) (E : ℕ) where
   fit_go i false e l = absurd (omega arith)
 
   module _ (i : ℕ) (l : i < entries_of b E) where
-    pub few_entries : entries_of b E ≤ 1024
-    few_entries = (fit_go i _ refl l).0
-
     inside_rows : i < rows_of b * per_row b
     inside_rows = (fit_go i _ refl l).1
 
