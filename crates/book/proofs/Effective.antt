@@ -3,7 +3,6 @@ use Rattle.std.proofs.Common.{◌≡◌, ℕ, ◌+◌, ◌*◌, ◌<◌, ◌≤�
 use Rattle.std.proofs.lemmas.Bool.{and_parts, leb-true}
 use Rattle.galois.specs.Model.{FieldLaws}
 use Rattle.galois.specs.Rows.{Few}
-use Rattle.bch.proofs.Counts.{units_lt}
 use Rattle.tally.specs.Damage.{Lawful}
 use Rattle.tally.proofs.Fields.{field_codes}
 use Rattle.book.specs.Model.{BookModel, FiguresFit, figures_test, setting, rows_of, reach_of, row_size}
