@@ -132,17 +132,18 @@ module _ (b b' : BookModel) (laws : FieldLaws b.field) (few : Few b.strength) (s
   knock_leads U from len (Err e) m =
       leads (knock from len) m.2.0.0 (carries.not_knocked from len (cell b) (cell b') m.0 (unchanged m.2))
 
--- the contracts
-pub write_call : (U : Type 0) (b b' : BookModel) → FieldLaws b.field → Few b.strength → SameFigures b b'
-    → (r : ℕ) (bytes : List ℕ) (x : Result U Refusal) → Wrote b b' r bytes x → WriteCall b b' r bytes x
-write_call U b b' laws few same r bytes x m = record { done = m; history = write_leads b b' laws few same U r bytes x m }
+-- the contracts, where the book has other cells after the call
+module _ (b : BookModel) (m' : Mem) (laws : FieldLaws b.field) (few : Few b.strength) where
+  pub write_call : (r : ℕ) (bytes : List ℕ) (x : Result (Unit {0}) Refusal) → Wrote b (at b m') r bytes x → WriteCall b (at b m') r bytes x
+  write_call r bytes x m = record { done = m; history = write_leads b (at b m') laws few (moved b b.memory m') (Unit {0}) r bytes x m }
 
-pub mend_call : (b b' : BookModel) → FieldLaws b.field → Few b.strength → SameFigures b b' → (r : ℕ) (x : Result ℕ Refusal) → Mended b b' r x → MendCall b b' r x
-mend_call b b' laws few same r x m = record { done = m; history = mend_leads b b' laws few same r x m; promise = mend_promise b b' laws few same r x m }
+  pub mend_call : (r : ℕ) (x : Result ℕ Refusal) → Mended b (at b m') r x → MendCall b (at b m') r x
+  mend_call r x m =
+      let same = moved b b.memory m' in
+      record { done = m; history = mend_leads b (at b m') laws few same r x m; promise = mend_promise b (at b m') laws few same r x m }
 
-pub knock_call : (U : Type 0) (b b' : BookModel) → FieldLaws b.field → Few b.strength → SameFigures b b'
-    → (from len : ℕ) (x : Result U Refusal) → Knocked b.memory b'.memory from len x → KnockCall b b' from len x
-knock_call U b b' laws few same from len x m = record { done = m; history = knock_leads b b' laws few same U from len x m }
+  pub knock_call : (from len : ℕ) (x : Result (Unit {0}) Refusal) → Knocked b.memory m' from len x → KnockCall b (at b m') from len x
+  knock_call from len x m = record { done = m; history = knock_leads b (at b m') laws few (moved b b.memory m') (Unit {0}) from len x m }
 
 pub own_figures : (b : BookModel) → SameFigures b b
 own_figures b = record { field = refl; strength = refl; reach = refl; rows = refl }

@@ -118,9 +118,6 @@ made_push b b' b'' [] (y ∷ xs) c x all m = absurd all
 made_push b b' b'' (d ∷ cs) [] c x all m = absurd all
 made_push b b' b'' (d ∷ cs) (y ∷ xs) c x all m = (all.0, (all.1.0, made_push all.0 b' b'' cs xs c x all.1.1 m))
 
-pub ran_none : (b : BookModel) (calls : List Call) (answers : List (Result Answer Refusal)) → RanTo b b calls answers 0
-ran_none b calls answers = record { made = refl; steady = refl; held = λ h v. (v, tt) }
-
 pub ran_more : (b b' b'' : BookModel) (calls : List Call) (answers : List (Result Answer Refusal)) (i : ℕ) (d c : Call) (x : Result Answer Refusal)
     → SameFigures b' b'' → i < length calls → length answers ≡ length calls → c ≡ get_or calls i d → Made b' b'' c x
     → RanTo b b' calls answers i → RanTo b b'' calls (set answers i x) (i + 1)
