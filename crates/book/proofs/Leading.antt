@@ -38,6 +38,13 @@ pub record SameFigures (b b' : BookModel) : Type 0 where
   pub reach : b'.reach ≡ b.reach
   pub rows : b'.rows ≡ b.rows
 
+-- the book b with other cells
+abbrev pub at : BookModel → Mem → BookModel
+at b m = record { field = b.field; strength = b.strength; reach = b.reach; rows = b.rows; memory = m }
+
+pub moved : (b : BookModel) (m m' : Mem) → SameFigures (at b m) (at b m')
+moved b m m' = record { field = refl; strength = refl; reach = refl; rows = refl }
+
 pub settings_same : (b b' : BookModel) → SameFigures b b' → b'.memory.layout ≡ b.memory.layout → setting b' ≡ setting b
 settings_same b b' same e = λ x. setting_at (same.field x) (same.strength x) (same.reach x) (same.rows x) (e x)
 
@@ -125,17 +132,18 @@ module _ (b b' : BookModel) (laws : FieldLaws b.field) (few : Few b.strength) (s
   knock_leads U from len (Err e) m =
       leads (knock from len) m.2.0.0 (carries.not_knocked from len (cell b) (cell b') m.0 (unchanged m.2))
 
--- the contracts
-pub write_call : (U : Type 0) (b b' : BookModel) → FieldLaws b.field → Few b.strength → SameFigures b b'
-    → (r : ℕ) (bytes : List ℕ) (x : Result U Refusal) → Wrote b b' r bytes x → WriteCall b b' r bytes x
-write_call U b b' laws few same r bytes x m = record { done = m; history = write_leads b b' laws few same U r bytes x m }
+-- the contracts, where the book has other cells after the call
+module _ (b : BookModel) (m' : Mem) (laws : FieldLaws b.field) (few : Few b.strength) where
+  pub write_call : (r : ℕ) (bytes : List ℕ) (x : Result (Unit {0}) Refusal) → Wrote b (at b m') r bytes x → WriteCall b (at b m') r bytes x
+  write_call r bytes x m = record { done = m; history = write_leads b (at b m') laws few (moved b b.memory m') (Unit {0}) r bytes x m }
 
-pub mend_call : (b b' : BookModel) → FieldLaws b.field → Few b.strength → SameFigures b b' → (r : ℕ) (x : Result ℕ Refusal) → Mended b b' r x → MendCall b b' r x
-mend_call b b' laws few same r x m = record { done = m; history = mend_leads b b' laws few same r x m; promise = mend_promise b b' laws few same r x m }
+  pub mend_call : (r : ℕ) (x : Result ℕ Refusal) → Mended b (at b m') r x → MendCall b (at b m') r x
+  mend_call r x m =
+      let same = moved b b.memory m' in
+      record { done = m; history = mend_leads b (at b m') laws few same r x m; promise = mend_promise b (at b m') laws few same r x m }
 
-pub knock_call : (U : Type 0) (b b' : BookModel) → FieldLaws b.field → Few b.strength → SameFigures b b'
-    → (from len : ℕ) (x : Result U Refusal) → Knocked b.memory b'.memory from len x → KnockCall b b' from len x
-knock_call U b b' laws few same from len x m = record { done = m; history = knock_leads b b' laws few same U from len x m }
+  pub knock_call : (from len : ℕ) (x : Result (Unit {0}) Refusal) → Knocked b.memory m' from len x → KnockCall b (at b m') from len x
+  knock_call from len x m = record { done = m; history = knock_leads b (at b m') laws few (moved b b.memory m') (Unit {0}) from len x m }
 
 pub own_figures : (b : BookModel) → SameFigures b b
 own_figures b = record { field = refl; strength = refl; reach = refl; rows = refl }

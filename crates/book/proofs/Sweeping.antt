@@ -17,7 +17,7 @@ use Rattle.book.specs.Model.{BookModel, setting, cell, rows_of, reach_of, row_si
 use Rattle.book.specs.Calls.{row_cells, InReach, SweptRow, Mended, Swept, Led}
 use Rattle.book.specs.Promised.{SweepCall}
 use Rattle.book.proofs.Effective.{rows_room, row_ends}
-use Rattle.book.proofs.Leading.{SameFigures, settings_same, own_figures, law, carries, leads, near, in_reach, laid-only, mend_leads}
+use Rattle.book.proofs.Leading.{SameFigures, at, moved, settings_same, own_figures, law, carries, leads, near, in_reach, laid-only, mend_leads}
 
 -- counts that go up by one
 hits_more : (f : ℕ → Bool) (i : ℕ) → hits f (suc i) ≡ hits f i + cond (f i) 1 0
@@ -38,15 +38,8 @@ total-same f g (suc n) h = omega (arith, h 0 (omega arith), total-same (λ j. f 
 total-next : (f g : ℕ → ℕ) (i x : ℕ) → ((j : ℕ) → j < i → f j ≡ g j) → f i ≡ x → total f (i + 1) ≡ total g i + x
 total-next f g i x h e = rw add-one (omega (arith, total-more f i, total-same f g i h))
 
--- the book b with other cells
-abbrev pub at : BookModel → Mem → BookModel
-at b m = record { field = b.field; strength = b.strength; reach = b.reach; rows = b.rows; memory = m }
-
 pub is_at : (b b' : BookModel) → SameFigures b b' → b' ≡ at b b'.memory
 is_at b b' same = λ x. record { field = same.field x; strength = same.strength x; reach = same.reach x; rows = same.rows x; memory = b'.memory }
-
-pub moved : (b : BookModel) (m m' : Mem) → SameFigures (at b m) (at b m')
-moved b m m' = record { field = refl; strength = refl; reach = refl; rows = refl }
 
 -- what became of a row
 abbrev Became : BookModel → ℕ → List Bool → Type 0
@@ -64,19 +57,6 @@ pub record SweptTo (b : BookModel) (m : Mem) (i accepted refused turned : ℕ) :
   pub all : accepted + refused ≡ i
   pub far : refused ≡ hits (λ r. is_none (nearest (setting b) (reach_of b) (row_cells b r))) i
   pub changed : turned ≡ total (λ r. distance (row_cells b r) (row_cells (at b m) r)) i
-
-pub swept_none : (b : BookModel) → SweptTo b b.memory 0 0 0 0
-swept_none b = record {
-  layout = refl;
-  held = λ h v. v;
-  rows = λ r l. absurd (omega arith);
-  rest = λ q _ _. refl;
-  there = λ c _ _. refl;
-  beneath = λ x _ _. refl;
-  all = refl;
-  far = refl;
-  changed = refl;
-}
 
 module _ (b : BookModel) (laws : FieldLaws b.field) (few : Few b.strength) (m m' : Mem) (i accepted refused turned : ℕ) (l : i < rows_of b)
     (w : SweptTo b m i accepted refused turned) where

@@ -3,7 +3,7 @@ use Rattle.std.specs.Prelude.{◌≡◌, ℕ, ◌+◌, ◌*◌, ◌<◌, ◌≤�
 use Rattle.std.proofs.Math.Option.{Option, none, some}
 use Rattle.refusal.specs.Order.{Unless, Never}
 use Rattle.refusal.specs.declared.Refusal.{Refusal}
-use Rattle.refusal.specs.declared.Refusal.TheVariants.{Row, Length, UnusedBit, NoCodeRow}
+use Rattle.refusal.specs.declared.Refusal.TheVariants.{Row, Length, UnusedBit, Cell, NoCodeRow}
 use Rattle.bits.specs.Bits.{Sized, Unused, Buffer}
 use Rattle.memory.specs.Mem.{Mem, Unchanged}
 use Rattle.galois.specs.Rows.{CodeRow, Systematic, cell_of, data_of, distance}
@@ -23,11 +23,20 @@ pub record InReach (b : BookModel) (row c : List Bool) : Type 0 where
   pub code : CodeRow b.field b.strength c
   pub close : distance row c ≤ reach_of b
 
--- a copy of row r corrected: the buffer shows the code row within the reach, and the answer is how far the row is from it; or there is none
-abbrev pub Found : BookModel → ℕ → (after : List ℕ) → Result ℕ Refusal → Type 0
-Found b r after (Ok count) =
-    Buffer (row_size b) after × InReach b (row_cells b r) (shown (row_size b) after) × (count ≡ distance (row_cells b r) (shown (row_size b) after))
-Found b r after (Err e) = (e ≡ NoCodeRow) × ((c : List Bool) → InReach b (row_cells b r) c → ⊥)
+-- where row r begins; refused where there is no such row
+abbrev pub Begun : BookModel → ℕ → Result ℕ Refusal → Type 0
+Begun b r (Ok a) = (r < rows_of b) × (a ≡ r * row_size b)
+Begun b r (Err e) = (rows_of b ≤ r) × (e ≡ Row)
+
+-- a copy of the row that begins at cell a, corrected: the buffer shows the code row within the reach, and the answer is how far the row is from
+-- it. Refused for a wrong length, then where there are no such cells, then where no code row is that near
+abbrev pub Copied : BookModel → ℕ → (before after : List ℕ) → Result ℕ Refusal → Type 0
+Copied b a before after (Ok count) =
+    let row = run b.memory a (row_size b) in
+    Buffer (row_size b) after × InReach b row (shown (row_size b) after) × (count ≡ distance row (shown (row_size b) after))
+Copied b a before after (Err e) =
+    Unless (Sized (row_size b) before) Length
+    (Unless (a + row_size b ≤ b.memory.layout.cells) Cell (Unless ((c : List Bool) × InReach b (run b.memory a (row_size b)) c) NoCodeRow Never)) e
 
 -- row r shows the cells of `code` now, and nothing else changed, neither in the memory nor beneath it
 abbrev pub RowLaid : BookModel → BookModel → ℕ → List Bool → Type 0

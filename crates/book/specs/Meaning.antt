@@ -15,6 +15,6 @@ meaning field corrector memory b = record {
   memory = memory.means b.memory;
 }
 
--- the corrector and the figures stay as they are
+-- the corrector and the figures stay as they are: a clause of its own in each call that changes a book, since its callers cite it alone
 abbrev pub Kept : {C M : Type 0} → Book C M → Book C M → Type 0
 Kept b b' = (b'.corrector ≡ b.corrector) × (b'.reach ≡ b.reach) × (b'.rows ≡ b.rows)

@@ -36,6 +36,10 @@ setting_at F t s R l = field_setting F t (effective (units F) t s R l.cells s) (
 abbrev pub setting : BookModel → Setting
 setting b = setting_at b.field b.strength b.reach b.rows b.memory.layout
 
+-- whether the figures of a book fit
+abbrev pub fits : BookModel → Bool
+fits b = figures_test (units b.field) b.strength b.reach b.rows b.memory.layout.cells
+
 -- what each cell shows
 abbrev pub cell : BookModel → ℕ → Bool
 cell b = b.memory.bit

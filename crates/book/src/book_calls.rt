@@ -7,7 +7,6 @@ ghost use Rattle.book.specs.Calls.{Blanked, Led};
 ghost use Rattle.book.specs.Promised.{SweepCall, KnockCall};
 
 use crate::{Book, SweepCounts};
-use bch::row_cells;
 use corrector::Corrector;
 use memory::Memory;
 use refusal::Refusal;
@@ -21,19 +20,9 @@ impl<C: Corrector, M: Memory> Book<C, M> {
         ensures history { Led [] (meaning C.Field C.Corrector.own M.Memory result) }
     {
         let mut book = Book::open(corrector, memory, reach, rows);
-        book.erase();
+        let cells = book.rows() * u32::from(book.row_cells());
+        zero(&mut book.memory, cells).unwrap();
         book
-    }
-
-    fn erase(&mut self)
-        ensures kept { Kept self.old self.new }
-        ensures cells { Blanked (M.Memory.means self.old.memory) (meaning C.Field C.Corrector.own M.Memory self.new) }
-    {
-        let cells = self.rows() * row_cells(&self.corrector) as u32;
-        match zero(&mut self.memory, cells) {
-            Ok(()) => {}
-            Err(_) => unreachable(),
-        }
     }
 
     /// Mends every row from 0 up, and counts. Never refused.
@@ -41,16 +30,12 @@ impl<C: Corrector, M: Memory> Book<C, M> {
         ensures kept { Kept self.old self.new }
         ensures call { SweepCall (meaning C.Field C.Corrector.own M.Memory self.old) (meaning C.Field C.Corrector.own M.Memory self.new) result.accepted result.refused result.turned }
     {
-        let mut counts = SweepCounts {
-            accepted: 0,
-            refused: 0,
-            turned: 0,
-        };
+        let mut counts = SweepCounts::default();
         for row in 0..self.rows() {
             match self.mend(row) {
                 Ok(turned) => {
                     counts.accepted += 1;
-                    counts.turned += turned as u32;
+                    counts.turned += u32::from(turned);
                 }
                 Err(_) => counts.refused += 1,
             }

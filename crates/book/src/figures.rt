@@ -4,7 +4,7 @@ ghost use Rattle.refusal.specs.Checks.{Checked};
 ghost use Rattle.refusal.specs.declared.Refusal.TheVariants.{Figures};
 ghost use Rattle.memory.specs.Mem.{Layout, Mem};
 ghost use Rattle.galois.specs.Model.{FieldModel, units};
-ghost use Rattle.book.specs.Model.{BookModel, FiguresFit, figures_test, rows_of, reach_of, row_size, data_size};
+ghost use Rattle.book.specs.Model.{BookModel, FiguresFit, figures_test, fits, rows_of, reach_of, row_size, data_size};
 ghost use Rattle.book.specs.Meaning.{meaning, Kept};
 ghost use Rattle.book.specs.Calls.{Blanked, Led};
 
@@ -42,22 +42,14 @@ impl<C: Corrector, M: Memory> Book<C, M> {
     pub fn rows(&self) -> u32
         ensures { result ≡ rows_of (meaning C.Field C.Corrector.own M.Memory self.now) }
     {
-        if figures_fit(&self.corrector, &self.memory, self.reach, self.rows) {
-            self.rows
-        } else {
-            0
-        }
+        if self.fits() { self.rows } else { 0 }
     }
 
     /// s, how many turned cells of a row a read or a mend corrects: 0 where the figures do not fit.
     pub fn reach(&self) -> u8
         ensures { result ≡ reach_of (meaning C.Field C.Corrector.own M.Memory self.now) }
     {
-        if figures_fit(&self.corrector, &self.memory, self.reach, self.rows) {
-            self.reach
-        } else {
-            0
-        }
+        if self.fits() { self.reach } else { 0 }
     }
 
     /// n, the cells of a row.
@@ -71,10 +63,7 @@ impl<C: Corrector, M: Memory> Book<C, M> {
     pub fn data_cells(&self) -> u8
         ensures { result ≡ data_size (meaning C.Field C.Corrector.own M.Memory self.now) }
     {
-        match data_cells(&self.corrector, self.corrector.corrects()) {
-            Ok(k) => k,
-            Err(_) => unreachable(),
-        }
+        data_cells(&self.corrector, self.corrects()).unwrap()
     }
 
     /// t, how many turned cells of a row the code corrects.
@@ -102,11 +91,17 @@ impl<C: Corrector, M: Memory> Book<C, M> {
         } = self;
         (corrector, memory)
     }
+
+    fn fits(&self) -> bool
+        ensures { result ≡ fits (meaning C.Field C.Corrector.own M.Memory self.now) }
+    {
+        figures_fit(&self.corrector, &self.memory, self.reach, self.rows)
+    }
 }
 
 fn figures_fit<C: Corrector, M: Memory>(corrector: &C, memory: &M, reach: u8, rows: u32) -> bool
     ensures { result ≡ figures_test (units (C.Field.model corrector.now)) (C.Corrector.strength corrector.now) reach rows (M.Memory.means memory.now).layout.cells }
 {
-    let n = row_cells(corrector) as u32;
+    let n = u32::from(row_cells(corrector));
     reach <= corrector.corrects() && rows >= 1 && rows <= 1024 && rows * n <= memory.cells()
 }

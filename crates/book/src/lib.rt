@@ -11,6 +11,7 @@ mod figures;
 mod row_calls;
 
 /// R rows over the cells of a memory, position j of row r at cell r × n + j.
+// No impl Model: a BookModel holds functions, which have no code; and a quote of a trait made for it would be no shorter than `meaning`.
 #[derive(Drop)]
 pub struct Book<C, M> {
     corrector: C,
@@ -20,7 +21,7 @@ pub struct Book<C, M> {
 }
 
 /// What a sweep did: how many rows it mended, how many had no code row within the reach, and how many cells turned.
-#[derive(Clone, Copy)]
+#[derive(Clone, Copy, PartialEq, Eq, Default, Debug)]
 pub struct SweepCounts {
     pub accepted: u32,
     pub refused: u32,

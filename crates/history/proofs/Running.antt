@@ -1,6 +1,6 @@
 -- One call after another.
 use Rattle.std.proofs.Common.{◌≡◌, ℕ, zero, suc, ◌+◌, ◌<◌, ◌≤◌, Bool, false, List, [], ◌∷◌, ◌++◌, length, get_or, take, set, is_ok, Ok, Err, Result, sym, refl, ap, ◌∙◌, subst, ⊎_elim, arith}
-use Rattle.std.proofs.lemmas.List.{take_more, take_more_set, take_all, take-append-le}
+use Rattle.std.proofs.lemmas.List.{take_more, take_more_set, take_all}
 use Rattle.refusal.specs.declared.Refusal.{Refusal}
 use Rattle.bits.specs.Bits.{Sized, Buffer}
 use Rattle.tally.specs.Rows.{hits}
@@ -24,18 +24,12 @@ pub record RanTo (b b' : BookModel) (calls : List Call) (answers : List (Result 
   pub steady : setting b' ≡ setting b
   pub held : (h : List TallyCall) → Led h b → Led (past (data_size b) (take i calls) h) b' × Ran (setting b) h (take i calls) (take i answers)
 
--- a read whose data stand in the answer
-module _ (b : BookModel) (r : ℕ) (before after : List ℕ) (sized : Sized (data_size b) before) where
-  pub read_out_ok : (rest : List ℕ) (count : ℕ) → ReadCall b r before after (Ok count) → ReadOut b r (Ok (WasRead count (after ++ rest)))
-  read_out_ok rest count m =
-      let e : take (room (data_size b)) (after ++ rest) ≡ after = let long : length after ≡ room (data_size b) = m.done.2.sized in take-append-le (room (data_size b)) after rest (omega arith) ∙ take_all (room (data_size b)) after (omega arith) in
-      (Ok count, before, after ++ rest, (sized, subst (λ (d : List ℕ). ReadCall b r before d (Ok count)) (sym e) m, refl))
-
-  pub read_out_err : (e : Refusal) → ReadCall b r before after (Err e) → ReadOut b r (Err e)
-  read_out_err e m =
-      let long : length before ≡ room (data_size b) = sized in
-      let z : take (room (data_size b)) after ≡ after = rw m.done.1 (take_all (room (data_size b)) before (omega arith)) in
-      (Err e, before, after, (sized, subst (λ (d : List ℕ). ReadCall b r before d (Err e)) (sym z) m, refl))
+-- a read that was refused leaves its buffer
+pub read_out_err : (b : BookModel) (r : ℕ) (before after : List ℕ) → Sized (data_size b) before → (e : Refusal) → ReadCall b r before after (Err e) → ReadOut b r (Err e)
+read_out_err b r before after sized e m =
+    let long : length before ≡ room (data_size b) = sized in
+    let z : take (room (data_size b)) after ≡ after = rw m.done.1 (take_all (room (data_size b)) before (omega arith)) in
+    (Err e, before, after, (sized, subst (λ (d : List ℕ). ReadCall b r before d (Err e)) (sym z) m, refl))
 
 module _ (b b' : BookModel) where
   -- a call that was made leads on
@@ -123,9 +117,6 @@ made_push b b' b'' [] [] c x all m = (b'', (subst (λ (p : BookModel). Made p b'
 made_push b b' b'' [] (y ∷ xs) c x all m = absurd all
 made_push b b' b'' (d ∷ cs) [] c x all m = absurd all
 made_push b b' b'' (d ∷ cs) (y ∷ xs) c x all m = (all.0, (all.1.0, made_push all.0 b' b'' cs xs c x all.1.1 m))
-
-pub ran_none : (b : BookModel) (calls : List Call) (answers : List (Result Answer Refusal)) → RanTo b b calls answers 0
-ran_none b calls answers = record { made = refl; steady = refl; held = λ h v. (v, tt) }
 
 pub ran_more : (b b' b'' : BookModel) (calls : List Call) (answers : List (Result Answer Refusal)) (i : ℕ) (d c : Call) (x : Result Answer Refusal)
     → SameFigures b' b'' → i < length calls → length answers ≡ length calls → c ≡ get_or calls i d → Made b' b'' c x

@@ -9,8 +9,9 @@ ghost use Rattle.refusal.specs.declared.Refusal.{Refusal};
 ghost use Rattle.book.specs.Model.{BookModel, data_size};
 ghost use Rattle.book.specs.Meaning.{meaning, Kept};
 ghost use Rattle.book.specs.Calls.{Leads};
-ghost use Rattle.history.specs.Runs.{call_of, mapped, ReadOut, Made, Replayed};
+ghost use Rattle.history.specs.Runs.{call_of, ReadOut, Made, Replayed};
 
+use bits::bytes_for;
 use book::{Book, SweepCounts};
 use corrector::Corrector;
 use memory::Memory;
@@ -31,6 +32,7 @@ pub enum Call<'a> {
 pub enum Answer {
     Written,
     /// In how many cells the row differs from its code row, and the data of that, in the first bytes.
+    // no heap: an array with room for the data of any row
     Read(u8, [u8; 32]),
     /// How many cells turned.
     Mended(u8),
@@ -48,11 +50,11 @@ pub fn make<C: Corrector, M: Memory>(
     ensures history { Leads (call_of (data_size (meaning C.Field C.Corrector.own M.Memory book.old)) call.entry) (meaning C.Field C.Corrector.own M.Memory book.old) (meaning C.Field C.Corrector.own M.Memory book.new) }
 {
     match call {
-        Call::Write { row, bytes } => done(book.write(row, bytes), Answer::Written),
+        Call::Write { row, bytes } => book.write(row, bytes).map(|()| Answer::Written),
         Call::Read { row } => read_out(book, row),
-        Call::Mend { row } => mended(book.mend(row)),
+        Call::Mend { row } => book.mend(row).map(Answer::Mended),
         Call::Sweep => Ok(Answer::Swept(book.sweep())),
-        Call::Knock { from, length } => done(book.knock(from, length), Answer::Knocked),
+        Call::Knock { from, length } => book.knock(from, length).map(|()| Answer::Knocked),
     }
 }
 
@@ -69,6 +71,7 @@ pub fn replay<C: Corrector, M: Memory>(
     if answers.len() != calls.len() {
         return Err(Refusal::Length);
     }
+    // no zip: of what is written through an adapter of iter_mut a proof knows nothing
     for (i, call) in calls.iter().enumerate() {
         answers[i] = make(book, *call);
     }
@@ -79,27 +82,6 @@ fn read_out<C: Corrector, M: Memory>(book: &Book<C, M>, row: u32) -> Result<Answ
     ensures { ReadOut (meaning C.Field C.Corrector.own M.Memory book.now) row result }
 {
     let mut bytes = [0u8; 32];
-    let size = (book.data_cells() as usize + 7) / 8;
-    match book.read(row, &mut bytes[0..size]) {
-        Ok(count) => Ok(Answer::Read(count, bytes)),
-        Err(refusal) => Err(refusal),
-    }
-}
-
-fn mended(res: Result<u8, Refusal>) -> Result<Answer, Refusal>
-    ensures { result ≡ mapped Answer.Mended res }
-{
-    match res {
-        Ok(turned) => Ok(Answer::Mended(turned)),
-        Err(refusal) => Err(refusal),
-    }
-}
-
-fn done(res: Result<(), Refusal>, answer: Answer) -> Result<Answer, Refusal>
-    ensures { result ≡ mapped (λ _. answer) res }
-{
-    match res {
-        Ok(()) => Ok(answer),
-        Err(refusal) => Err(refusal),
-    }
+    let count = book.read(row, &mut bytes[..bytes_for(book.data_cells())])?;
+    Ok(Answer::Read(count, bytes))
 }

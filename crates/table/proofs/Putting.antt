@@ -1,5 +1,5 @@
 -- An entry put, over plain values.
-use Rattle.std.proofs.Common.{◌≡◌, ℕ, ◌+◌, ◌*◌, ◌/◌, ◌%◌, ◌<◌, ◌≢◌, List, [], ◌∷◌, length, get_or, set, ℤ, Ok, Err, Result, refl, ap, ◌∙◌, subst, ap₂, inl, inr, ⊎_elim, arith}
+use Rattle.std.proofs.Common.{◌≡◌, ℕ, ◌+◌, ◌*◌, ◌/◌, ◌%◌, ◌<◌, ◌≢◌, List, [], ◌∷◌, length, get_or, set, ℤ, Ok, Err, Result, sym, refl, ap, ◌∙◌, subst, ap₂, inr, ⊎_elim, arith}
 use lib.Ieee.{Float}
 use Rattle.std.proofs.lemmas.List.{length-set, get_or-set_same, get_or-set_other}
 use Rattle.refusal.specs.declared.Refusal.{Refusal}
@@ -51,19 +51,16 @@ module _ (b : BookModel) (E i r x : ℕ) (l : i < entries_of b E) (at : Stands b
   inside : index_in b i < per_row b
   inside = subst (λ (n : ℕ). n < per_row b) at.index at.inside
 
-  pub put-no_value : (U : Type 0) (e : Refusal) → Represents v (Err e) → Put {U = U} b b E i v (Err e)
-  put-no_value U e law = (inr (l, inl ((λ t. let z : ◌≡◌ {A = ℕ} 0 1 = cc (t, law.0) in omega arith), law.1)), refl)
-
   pub put-no_row : (U : Type 0) (before bytes : List ℕ) → Sized (data_size b) before → (e : Refusal) (z : ℤ) → Represents v (Ok z) → ReadCall b r before bytes (Err e) → Put {U = U} b b E i v (Err e)
   put-no_row U before bytes sized e z law call = (inr (l, inr (law.0, entry_lost b E i r x l at before bytes sized e call)), refl)
 
-  module _ (before bytes : List ℕ) (sized : Sized (data_size b) before) (count : ℕ) (z : ℤ) (is : entry_of v ≡ Ok z) (back : number_of (bytes_of z) ≡ z) (call : ReadCall b r before bytes (Ok count)) (b' : BookModel) where
+  module _ (before bytes : List ℕ) (sized : Sized (data_size b) before) (count : ℕ) (z : ℤ) (is : Ok z ≡ entry_of v) (back : number_of (bytes_of z) ≡ z) (call : ReadCall b r before bytes (Ok count)) (b' : BookModel) where
     done : {U : Type 0} (a : Result U Refusal) → WriteCall b b' (row_number b i) (changed bytes (index_in b i) z) a → Put b b' E i v a
     done (Ok u) w = (
       l,
       (
         z,
-        is,
+        sym is,
         record {
           bytes = bytes;
           count = count;

@@ -1,5 +1,5 @@
 -- An entry read, over plain values.
-use Rattle.std.proofs.Common.{◌≡◌, ℕ, ◌<◌, List, ℤ, Ok, Err, Result, ap, ◌∙◌, subst, inr, ⊎_elim}
+use Rattle.std.proofs.Common.{◌≡◌, ℕ, ◌<◌, List, ℤ, Ok, Err, Result, ap, ◌∙◌, subst, ⊎_elim}
 use Rattle.refusal.specs.declared.Refusal.{Refusal}
 use Rattle.refusal.specs.declared.Refusal.TheVariants.{NoCodeRow}
 use Rattle.bits.specs.Bits.{Sized}
@@ -26,6 +26,3 @@ module _ (b : BookModel) (E i r x : ℕ) (l : i < entries_of b E) (at : Stands b
   entry_lost e call =
       let is = only_far e call in
       (is, (bytes, row_read (Err NoCodeRow) (subst (λ (f : Refusal). ReadCall b r before bytes (Err f)) is call)))
-
-  pub entry_not_got : (e : Refusal) → ReadCall b r before bytes (Err e) → EntryGot b E i (Err e)
-  entry_not_got e call = inr (l, entry_lost e call)

@@ -8,6 +8,7 @@ ghost use Rattle.entry.specs.Interpolation.{next_index};
 
 use crate::Table;
 use crate::layout::{entry_at, set_entry_at};
+use bits::bytes_for;
 use corrector::Corrector;
 use entry::{arcseconds, blend, entry_of, locate, next_index};
 use memory::Memory;
@@ -31,10 +32,10 @@ impl<C: Corrector, M: Memory> Table<C, M> {
         ensures call { Put (meaning C.Field C.Corrector.own M.Memory self.old.book) (meaning C.Field C.Corrector.own M.Memory self.new.book) self.old.entries i value result }
         ensures history { ReadLeads (meaning C.Field C.Corrector.own M.Memory self.old.book) i }
     {
-        let (row, index) = self.place(i)?; // before the value: the lowest refusal that applies is given
+        let (row, index) = self.place(i)?;
         let entry = entry_of(value)?;
-        let mut buffer = [0u8; 32];
-        let bytes = &mut buffer[0..(self.book.data_cells() as usize + 7) / 8];
+        let mut buffer = [0u8; 32]; // no heap: room for the data of any row
+        let bytes = &mut buffer[..bytes_for(self.book.data_cells())];
         self.book.read(row, bytes)?;
         set_entry_at(bytes, index, entry);
         self.book.write(row, bytes)
@@ -57,10 +58,10 @@ impl<C: Corrector, M: Memory> Table<C, M> {
     fn entry(&self, i: u32) -> Result<i16, Refusal>
         ensures { EntryGot (meaning C.Field C.Corrector.own M.Memory self.now.book) self.now.entries i result }
     {
-        let (row, index) = self.place(i)?;
+        let (row, place) = self.place(i)?;
         let mut buffer = [0u8; 32];
-        let bytes = &mut buffer[0..(self.book.data_cells() as usize + 7) / 8];
+        let bytes = &mut buffer[..bytes_for(self.book.data_cells())];
         self.book.read(row, bytes)?;
-        Ok(entry_at(bytes, index))
+        Ok(entry_at(bytes, place))
     }
 }

@@ -74,7 +74,7 @@ impl<C: Corrector, M: Memory> Table<C, M> {
 fn per_row<C: Corrector, M: Memory>(book: &Book<C, M>) -> u32
     ensures { (result ≡ per_row (meaning C.Field C.Corrector.own M.Memory book.now)) × (result < 16) }
 {
-    book.data_cells() as u32 / 16
+    u32::from(book.data_cells()) / 16
 }
 
 fn entries_fit<C: Corrector, M: Memory>(book: &Book<C, M>, entries: u32) -> bool

@@ -21,7 +21,5 @@ pub(crate) fn set_entry_at(bytes: &mut [u8], index: u32, entry: i16)
     ensures back { number_of (bytes_of entry) ≡ entry }
 {
     let low = 2 * index as usize;
-    let stored = to_bytes(entry);
-    bytes[low] = stored[0];
-    bytes[low + 1] = stored[1];
+    [bytes[low], bytes[low + 1]] = to_bytes(entry);
 }

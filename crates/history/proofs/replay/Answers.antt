@@ -1,11 +1,8 @@
 use Rattle.std.proofs.Common.{◌≡◌, length, refl, arith}
 use Rattle.book.specs.Meaning.{meaning}
-use Rattle.book.proofs.Leading.{kept_figures, kept_self, kept_on}
-use Rattle.history.proofs.Running.{ran_none, ran_more, ran_all}
+use Rattle.book.proofs.Leading.{kept_figures, kept_on}
+use Rattle.history.proofs.Running.{ran_more, ran_all}
 use Rattle.history.proofs.replay.Goals as goal
-
-pub loop-i-init : goal.loop-i-init
-loop-i-init g c = (kept_self c.args.book.now, ran_none (meaning g.C.Field g.C.Corrector g.M.Memory c.args.book.now) c.args.calls.now c.args.answers.now)
 
 pub loop-i-preserved : goal.loop-i-preserved
 loop-i-preserved g c =

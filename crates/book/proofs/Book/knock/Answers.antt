@@ -1,15 +1,9 @@
 use Rattle.book.specs.Meaning.{meaning}
-use Rattle.book.proofs.Leading.{knock_call, kept_self}
-use Rattle.book.proofs.Sweeping.{at, moved}
+use Rattle.book.proofs.Leading.{knock_call}
 use Rattle.book.proofs.Book.knock.Goals as goal
 
-pub returns : goal.returns
-returns g c =
+pub returns-clause-call : goal.returns-clause-call
+returns-clause-call g c =
     let self = c.args.self.now in
-    let b = meaning g.C.Field g.C.Corrector g.M.Memory self in
-    let m' = g.M.Memory.means c.knock.new.self in
-    record {
-      kept = kept_self self;
-      call = knock_call (Unit {0}) b (at b m') (g.C.Field.lawful self.corrector) (g.C.Corrector.few self.corrector) (moved b b.memory m')
-          c.args.from c.args.length c.knock.result c.knock.ensures;
-    }
+    knock_call (meaning g.C.Field g.C.Corrector g.M.Memory self) (g.M.Memory.means c.knock.new.self) (g.C.Field.lawful self.corrector) (g.C.Corrector.few self.corrector)
+    c.args.from c.args.length c.knock.result c.knock.ensures

@@ -1,48 +1,30 @@
-use Rattle.std.proofs.Common.{ℕ, ◌<◌, Ok, Err, Result, sym, ap, ◌∙◌, subst, arith}
+use Rattle.std.proofs.Common.{rules}
 use Rattle.std.proofs.lemmas.Result.{err_from_is_err_and}
-use Rattle.refusal.specs.declared.Refusal.{Refusal}
-use Rattle.refusal.specs.declared.Refusal.TheVariants.{Row}
-use Rattle.book.specs.Model.{rows_of}
 use Rattle.book.specs.Meaning.{meaning}
-use Rattle.book.specs.Promised.{MendCall}
-use Rattle.book.proofs.Correcting.{mended, not_mended, no_row_mend, as_was}
-use Rattle.book.proofs.Leading.{mend_call, kept_figures, kept_self, own_figures}
+use Rattle.book.proofs.Correcting.{always_laid, mended, not_mended}
+use Rattle.book.proofs.Leading.{at, mend_call}
 use Rattle.book.proofs.Book.mend.Goals as goal
 
-pub returns-then-row-rows : goal.returns-then-row-rows
-returns-then-row-rows g c =
-    let b = meaning g.C.Field g.C.Corrector g.M.Memory c.args.self.now in
-    let laws = g.C.Field.lawful c.args.self.now.corrector in
-    let few = g.C.Corrector.few c.args.self.now.corrector in
-    record {
-      kept = kept_self c.args.self.now;
-      call = mend_call b b laws few (own_figures b) c.args.row (Err Row)
-          (no_row_mend b c.args.row c.rows.result c.rows.ensures c.if-row-rows.true);
-    }
+pub returns-in_err-turned-clause-call : goal.returns-in_err-turned-clause-call
+returns-in_err-turned-clause-call g c =
+    let self = c.args.self.now in
+    let b = meaning g.C.Field g.C.Corrector g.M.Memory self in
+    let p = err_from_is_err_and c.from_residual-in_err-turned.result c.from_residual-in_err-turned.ensures.1 in
+    rw (p.1, p.2)
+    (mend_call b b.memory (g.C.Field.lawful self.corrector) (g.C.Corrector.few self.corrector) c.args.row _
+    (not_mended b c.args.row c.in_ok-first.first c.in_ok-first.ensures _ c.corrected.new.cells _ (search rules) c.in_err-turned.ensures))
 
-pub returns-in_err-turned : goal.returns-in_err-turned
-returns-in_err-turned g c =
+pub returns-in_err-scatter-clause-call : goal.returns-in_err-scatter-clause-call
+returns-in_err-scatter-clause-call g c =
     let b = meaning g.C.Field g.C.Corrector g.M.Memory c.args.self.now in
-    let laws = g.C.Field.lawful c.args.self.now.corrector in
-    let few = g.C.Corrector.few c.args.self.now.corrector in
-    let l : c.args.row < rows_of b = omega (arith, c.rows.ensures, c.if-row-rows.false) in
-    let p = err_from_is_err_and c.from_residual.result c.from_residual.ensures.1 in
-    record {
-      kept = kept_self c.args.self.now;
-      call = subst (λ (a : Result ℕ Refusal). MendCall b b c.args.row a) (sym (p.1 ∙ ap Err p.2))
-          (mend_call b b laws few (own_figures b) c.args.row (Err c.in_err-turned.field-0.0)
-          (not_mended b b c.args.row c.corrected.new.cells c.in_err-turned.field-0.0 l c.in_err-turned.ensures (as_was b.memory)));
-    }
+    absurd (always_laid b c.args.row c.in_ok-first.first c.in_ok-first.ensures (at b (g.M.Memory.means c.scatter.new.memory)) c.row_cells-n.result c.row_cells-n.ensures
+    c.corrected.new.cells c.in_ok-turned.ensures.0 _ c.in_err-scatter.ensures)
 
-pub returns : goal.returns
-returns g c =
-    let b = meaning g.C.Field g.C.Corrector g.M.Memory c.args.self.now in
-    let b' = meaning g.C.Field g.C.Corrector g.M.Memory c.lay.new.self in
-    let laws = g.C.Field.lawful c.args.self.now.corrector in
-    let few = g.C.Corrector.few c.args.self.now.corrector in
-    let l : c.args.row < rows_of b = omega (arith, c.rows.ensures, c.if-row-rows.false) in
-    record {
-      kept = c.lay.ensures.kept;
-      call = mend_call b b' laws few (kept_figures g.C.Field g.C.Corrector g.M.Memory c.args.self.now c.lay.new.self c.lay.ensures.kept) c.args.row (Ok c.in_ok-turned.turned)
-          (mended b b' c.args.row c.corrected.new.cells c.in_ok-turned.turned l c.in_ok-turned.ensures c.lay.ensures.laid);
-    }
+pub returns-clause-call : goal.returns-clause-call
+returns-clause-call g c =
+    let self = c.args.self.now in
+    let b = meaning g.C.Field g.C.Corrector g.M.Memory self in
+    let m' = g.M.Memory.means c.scatter.new.memory in
+    mend_call b m' (g.C.Field.lawful self.corrector) (g.C.Corrector.few self.corrector) c.args.row _
+    (mended b c.args.row c.in_ok-first.first c.in_ok-first.ensures (at b m') c.row_cells-n.result c.row_cells-n.ensures
+    c.corrected.new.cells _ c.in_ok-turned.ensures tt c.in_ok-scatter.ensures)

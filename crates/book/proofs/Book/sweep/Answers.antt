@@ -1,5 +1,6 @@
-use Rattle.std.proofs.Common.{◌≡◌, ℕ, ◌+◌, ◌*◌, ◌<◌, ◌≤◌, sym, subst, arith}
+use Rattle.std.proofs.Common.{◌≡◌, ℕ, ◌+◌, ◌*◌, ◌<◌, ◌≤◌, Ok, sym, subst, arith}
 use Rattle.book.specs.Meaning.{meaning, Kept}
+use Rattle.book.specs.Calls.{Mended}
 use Rattle.book.specs.Model.{rows_of}
 use Rattle.book.specs.declared.SweepCounts.{SweepCounts}
 use Rattle.book.proofs.Effective.{reach_within}
@@ -28,7 +29,7 @@ loop-row-preserved g c =
           let done = w.in-Ok.ensures.call.done in
           let small : w.in-Ok.turned ≤ 3 = omega (arith, done.1.3, done.1.1.close, reach_within b', (g.C.Corrector.few l.self.corrector).1) in
           let p = subst Goal (sym w.counts-is)
-          (omega (arith, l.invariant.1), swept_more b b' b'' laws few same same' l.row l.counts.accepted l.counts.refused l.counts.turned row l.invariant.2 w.in-Ok.turned done) in
+          (omega (arith, l.invariant.1, w.from.ensures), swept_more b b' b'' laws few same same' l.row l.counts.accepted l.counts.refused l.counts.turned row l.invariant.2 w.from.result (subst (λ (x : ℕ). Mended b' b'' l.row (Ok x)) (sym w.from.ensures) done)) in
           (k, p.0, p.1)
       | in-Err w ↦
           let p = subst Goal (sym w.counts-is)

@@ -1,50 +1,26 @@
-use Rattle.std.proofs.Common.{◌<◌, Ok, Err, Result, sym, ap, ◌∙◌, subst, arith, rules}
+use Rattle.std.proofs.Common.{rules}
 use Rattle.std.proofs.lemmas.Result.{err_from_is_err_and}
-use Rattle.refusal.specs.declared.Refusal.{Refusal}
-use Rattle.refusal.specs.declared.Refusal.TheVariants.{Row}
-use Rattle.book.specs.Model.{rows_of}
 use Rattle.book.specs.Meaning.{meaning}
-use Rattle.book.specs.Promised.{WriteCall}
-use Rattle.book.proofs.Correcting.{wrote, not_encoded, no_row_write, as_was}
-use Rattle.book.proofs.Leading.{write_call, kept_figures, kept_self, own_figures}
+use Rattle.book.proofs.Correcting.{wrote, not_encoded}
+use Rattle.book.proofs.Leading.{at, write_call}
 use Rattle.book.proofs.Book.write.Goals as goal
 
-pub returns-then-row-rows : goal.returns-then-row-rows
-returns-then-row-rows g c =
-    let b = meaning g.C.Field g.C.Corrector g.M.Memory c.args.self.now in
-    let laws = g.C.Field.lawful c.args.self.now.corrector in
-    let few = g.C.Corrector.few c.args.self.now.corrector in
-    record {
-      kept = kept_self c.args.self.now;
-      call = write_call (Unit {0}) b b laws few (own_figures b) c.args.row c.args.bytes.now (Err Row)
-          (no_row_write b c.args.row c.rows.result c.rows.ensures c.if-row-rows.true (Unit {0}) c.args.bytes.now);
-    }
+pub returns-in_err-encode-clause-call : goal.returns-in_err-encode-clause-call
+returns-in_err-encode-clause-call g c =
+    let self = c.args.self.now in
+    let b = meaning g.C.Field g.C.Corrector g.M.Memory self in
+    let few = g.C.Corrector.few self.corrector in
+    let p = err_from_is_err_and c.from_residual-in_err-encode.result c.from_residual-in_err-encode.ensures.1 in
+    rw (p.1, p.2)
+    (write_call b b.memory (g.C.Field.lawful self.corrector) few c.args.row c.args.bytes.now _
+    (not_encoded b c.args.row c.in_ok-first.first c.in_ok-first.ensures c.corrects.result c.args.bytes.now _ c.encode.new.row _
+    c.corrects.ensures few (search rules) c.in_err-encode.ensures))
 
-pub returns-in_err-encode : goal.returns-in_err-encode
-returns-in_err-encode g c =
-    let b = meaning g.C.Field g.C.Corrector g.M.Memory c.args.self.now in
-    let laws = g.C.Field.lawful c.args.self.now.corrector in
-    let few = g.C.Corrector.few c.args.self.now.corrector in
-    let l : c.args.row < rows_of b = omega (arith, c.rows.ensures, c.if-row-rows.false) in
-    let p = err_from_is_err_and c.from_residual.result c.from_residual.ensures.1 in
-    record {
-      kept = kept_self c.args.self.now;
-      call = subst (λ (a : Result (Unit {0}) Refusal). WriteCall b b c.args.row c.args.bytes.now a) (sym (p.1 ∙ ap Err p.2))
-          (write_call (Unit {0}) b b laws few (own_figures b) c.args.row c.args.bytes.now (Err c.in_err-encode.field-0.0)
-          (not_encoded (Unit {0}) b b c.args.row c.corrects.result c.args.bytes.now _ c.encode.new.row c.in_err-encode.field-0.0
-          c.corrects.ensures few l (search rules) c.in_err-encode.ensures (as_was b.memory)));
-    }
-
-pub returns : goal.returns
-returns g c =
-    let b = meaning g.C.Field g.C.Corrector g.M.Memory c.args.self.now in
-    let b' = meaning g.C.Field g.C.Corrector g.M.Memory c.lay.new.self in
-    let laws = g.C.Field.lawful c.args.self.now.corrector in
-    let few = g.C.Corrector.few c.args.self.now.corrector in
-    let l : c.args.row < rows_of b = omega (arith, c.rows.ensures, c.if-row-rows.false) in
-    record {
-      kept = c.lay.ensures.kept;
-      call = write_call (Unit {0}) b b' laws few (kept_figures g.C.Field g.C.Corrector g.M.Memory c.args.self.now c.lay.new.self c.lay.ensures.kept) c.args.row c.args.bytes.now (Ok _)
-          (wrote (Unit {0}) b b' c.args.row c.corrects.result c.args.bytes.now _ c.encode.new.row _ c.corrects.ensures l
-          c.in_ok-encode.ensures c.lay.ensures.laid);
-    }
+pub returns-clause-call : goal.returns-clause-call
+returns-clause-call g c =
+    let self = c.args.self.now in
+    let b = meaning g.C.Field g.C.Corrector g.M.Memory self in
+    let m' = g.M.Memory.means c.scatter.new.memory in
+    write_call b m' (g.C.Field.lawful self.corrector) (g.C.Corrector.few self.corrector) c.args.row c.args.bytes.now _
+    (wrote b c.args.row c.in_ok-first.first c.in_ok-first.ensures (at b m') c.row_cells-n.result c.corrects.result c.row_cells-n.ensures c.corrects.ensures
+    c.args.bytes.now _ c.encode.new.row _ c.in_ok-encode.ensures c.scatter.result c.scatter.ensures)
