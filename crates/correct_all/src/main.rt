@@ -80,7 +80,7 @@ fn main(rt: HostRuntime) -> io::Result<()> {
     println!(rt;
         "m = 4, all 32768 rows, both correctors beside the nearest code rows by counting:"
     )?;
-    // the published generators of the codes of 15 cells that correct one, two and three errors
+    // The published generators of the codes of 15 cells that correct one, two and three errors
     for (t, generator) in [(1, 0x13), (2, 0x1D1), (3, 0x537)] {
         let step = StepCorrector::new(ShiftField::new(4), t);
         let direct = DirectCorrector::new(TableField::new(4), t);
