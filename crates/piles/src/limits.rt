@@ -65,27 +65,24 @@ pub(crate) fn no_cells(rt: &impl Print) -> anyhow::Result<()> {
     window(rt, ByteCells::new(&mut bytes), 0, 0, &steps)
 }
 
-const LAST_CELLS: [Step; 8] = [
-    Step::Put(262143, false),
-    Step::Put(262144, false),
-    Step::Knock(262136, 4),
-    Step::Knock(262136, 9),
-    Step::Knock(262144, 0),
-    Step::Knock(262145, 0),
-    Step::Knock(u32::MAX, 1),
-    Step::Knock(1, u32::MAX),
-];
-
-pub(crate) fn most_bytes(rt: &impl Print) -> anyhow::Result<()> {
+/// A memory has at most 262144 cells: the slices are a little longer.
+pub(crate) fn most_cells(rt: &impl Print) -> anyhow::Result<()> {
+    let steps = [
+        Step::Put(262143, false),
+        Step::Put(262144, false),
+        Step::Knock(262136, 4),
+        Step::Knock(262136, 9),
+        Step::Knock(262144, 0),
+        Step::Knock(262145, 0),
+        Step::Knock(u32::MAX, 1),
+        Step::Knock(1, u32::MAX),
+    ];
     println!(rt; "32770 bytes, the last five")?;
     let mut bytes = [0xb5; 32770];
-    trace(rt, &mut ByteCells::new(&mut bytes), &LAST_CELLS)?;
-    lent(rt, &bytes[32765..])
-}
-
-pub(crate) fn most_words(rt: &impl Print) -> anyhow::Result<()> {
+    trace(rt, &mut ByteCells::new(&mut bytes), &steps)?;
+    lent(rt, &bytes[32765..])?;
     println!(rt; "8194 words, the last four")?;
     let mut words = [0xb500_0001; 8194];
-    trace(rt, &mut WordCells::new(&mut words), &LAST_CELLS)?;
+    trace(rt, &mut WordCells::new(&mut words), &steps)?;
     lent(rt, &words[8190..])
 }

@@ -19,6 +19,5 @@ fn main(rt: HostRuntime) -> anyhow::Result<()> {
     limits::unfit_windows(&rt)?;
     limits::unfit_interleavers(&rt)?;
     limits::no_cells(&rt)?;
-    limits::most_bytes(&rt)?;
-    limits::most_words(&rt)
+    limits::most_cells(&rt)
 }
