@@ -2,165 +2,112 @@
 //! the multiples of the generator polynomial, found by long division, and the nearest is found by counting.
 #![tactic(auto)]
 
+ghost use Rattle.std.specs.Prelude.{◌<◌};
+
 use corrector::{Agreement, Corrector, agree};
 use direct_corrector::DirectCorrector;
 use field::{ShiftField, TableField};
 use refusal::Refusal;
+use std::alloc::{AllocError, Global};
 use std::io;
 use step_corrector::StepCorrector;
 
-/// A generator polynomial, bit i for x^i, and its degree.
-#[derive(Drop)]
-struct Generator {
-    polynomial: u32,
-    degree: u32,
+/// How many rows of 15 cells there are.
+const ROWS: u16 = 32768;
+
+/// A row, and the code row nearest to it.
+#[derive(Clone, Copy)]
+struct Case {
+    row: u16,
+    nearest: u16,
 }
 
-/// The published generators of the codes of 15 cells that correct one, two and three errors.
-fn published(t: u8) -> Generator {
-    match t {
-        1 => Generator {
-            polynomial: 0x13,
-            degree: 4,
-        },
-        2 => Generator {
-            polynomial: 0x1D1,
-            degree: 8,
-        },
-        _ => Generator {
-            polynomial: 0x537,
-            degree: 10,
-        },
+impl Case {
+    fn distance(&self) -> u32 {
+        (self.row ^ self.nearest).count_ones()
+    }
+
+    /// Whether a corrector makes of the row what the case says.
+    fn is_met_by<C: Corrector>(&self, c: &C) -> bool {
+        let mut bytes = self.row.to_le_bytes();
+        let answer = c.correct(&mut bytes).map(u32::from);
+        let (right, left) = if self.distance() <= u32::from(c.corrects()) {
+            (Ok(self.distance()), self.nearest)
+        } else {
+            (Err(Refusal::NoCodeRow), self.row)
+        };
+        answer == right && u16::from_le_bytes(bytes) == left
     }
 }
 
-/// Whether a row is a multiple of the generator.
-fn is_multiple(row: u16, g: &Generator) -> bool {
-    let mut rest = row as u32;
-    for i in (0..15u32).rev() {
-        if i >= g.degree && (rest >> i) % 2 == 1 {
-            rest ^= g.polynomial.wrapping_shl(i - g.degree);
+/// Whether a row is a multiple of a polynomial; bit i stands for x^i.
+fn is_multiple(row: u16, polynomial: u16) -> bool
+    requires { 0 < polynomial }
+{
+    let degree = polynomial.ilog2();
+    let mut rest = row;
+    for i in (degree..16).rev() {
+        if (rest >> i) % 2 == 1 {
+            rest ^= polynomial << (i - degree);
         }
     }
     rest == 0
 }
 
-/// The code rows, and how many there are.
-#[derive(Drop)]
-struct CodeRows {
-    rows: [u16; 2048],
-    count: usize,
+/// Every row beside the nearest multiple of the generator, in the order of the rows.
+fn cases(alloc: Global, generator: u16) -> Result<Vec<Case>, AllocError>
+    requires { 0 < generator }
+{
+    let code: Vec<u16> = (0..ROWS)
+        .filter(|row| is_multiple(*row, generator))
+        .collect(alloc)?;
+    (0..ROWS)
+        .map(|row| Case {
+            row,
+            nearest: nearest_of(&code, row),
+        })
+        .collect(alloc)
 }
 
-fn multiples_of(g: &Generator) -> CodeRows {
-    let mut code = CodeRows {
-        rows: [0; 2048],
-        count: 0,
-    };
-    for row in 0..32768u16 {
-        if is_multiple(row, g) && code.count < 2048 {
-            code.rows[code.count] = row;
-            code.count += 1;
-        }
-    }
-    code
+fn nearest_of(code: &[u16], row: u16) -> u16 {
+    code.iter()
+        .copied()
+        .min_by_key(|other| (*other ^ row).count_ones())
+        .unwrap_or(0)
 }
 
-/// The code row nearest to a row, and its distance.
-#[derive(Drop)]
-struct Nearest {
-    row: u16,
-    distance: u32,
-}
-
-fn nearest_to(code: &CodeRows, row: u16) -> Nearest {
-    let mut best = Nearest {
-        row: 0,
-        distance: row.count_ones(),
-    };
-    for i in 0..2048usize {
-        let distance = (code.rows[i] ^ row).count_ones();
-        if i < code.count && distance < best.distance {
-            best = Nearest {
-                row: code.rows[i],
-                distance,
-            };
-        }
-    }
-    best
-}
-
-/// Whether a corrector makes of a row what the table says.
-fn is_right<C: Corrector>(c: &C, row: u16, near: &Nearest) -> bool {
-    let mut bytes = row.to_le_bytes();
-    let reached = near.distance <= c.corrects() as u32;
-    match c.correct(&mut bytes) {
-        Ok(count) => reached
-            && count as u32 == near.distance
-            && u16::from_le_bytes(bytes) == near.row,
-        Err(Refusal::NoCodeRow) => !reached && u16::from_le_bytes(bytes) == row,
-        Err(_) => false,
-    }
-}
-
-/// How often each came up.
-#[derive(Drop)]
-struct Totals {
-    clean: u32,
-    one: u32,
-    two: u32,
-    three: u32,
-    refused: u32,
-    disagreements: u32,
-}
-
-impl Totals {
-    fn note(&mut self, distance: u32, t: u32) {
-        match distance {
-            w if w > t => self.refused = self.refused.saturating_add(1),
-            0 => self.clean = self.clean.saturating_add(1),
-            1 => self.one = self.one.saturating_add(1),
-            2 => self.two = self.two.saturating_add(1),
-            _ => self.three = self.three.saturating_add(1),
-        }
-    }
-}
-
-fn count_all<C: Corrector, D: Corrector>(c: &C, d: &D, code: &CodeRows) -> Totals {
-    let t = c.corrects() as u32;
-    let mut totals = Totals {
-        clean: 0,
-        one: 0,
-        two: 0,
-        three: 0,
-        refused: 0,
-        disagreements: 0,
-    };
-    for row in 0..32768u16 {
-        let near = nearest_to(code, row);
-        totals.note(near.distance, t);
-        let alike = match agree(c, d, &row.to_le_bytes()) {
-            Agreement::Alike => true,
-            Agreement::Unlike => false,
-        };
-        if !(alike && is_right(c, row, &near) && is_right(d, row, &near)) {
-            totals.disagreements = totals.disagreements.saturating_add(1);
-        }
-    }
-    totals
-}
-
-fn main(rt: HostRuntime) -> Result<(), io::Error> {
+fn main(rt: HostRuntime) -> io::Result<()> {
     println!(rt;
         "m = 4, all 32768 rows, both correctors beside the nearest code rows by counting:"
     )?;
-    for t in 1..=3u8 {
+    // The published generators of the codes of 15 cells that correct one, two and three errors
+    for (t, generator) in [(1, 0x13), (2, 0x1D1), (3, 0x537)] {
         let step = StepCorrector::new(ShiftField::new(4), t);
         let direct = DirectCorrector::new(TableField::new(4), t);
-        let all = count_all(&step, &direct, &multiples_of(&published(t)));
+        let all = cases(rt.alloc(), generator)?;
+        let corrected = |errors: u32| {
+            all.iter()
+                .filter(|case| case.distance() == errors && errors <= u32::from(t))
+                .count()
+        };
+        let refused = all
+            .iter()
+            .filter(|case| case.distance() > u32::from(t))
+            .count();
+        let disagreements = all
+            .iter()
+            .filter(|case| {
+                agree(&step, &direct, &case.row.to_le_bytes()) != Agreement::Alike
+                    || !case.is_met_by(&step)
+                    || !case.is_met_by(&direct)
+            })
+            .count();
         println!(rt;
-            "t = {t}: clean {}, one {}, two {}, three {}, refused {}, disagreements {}",
-            all.clean, all.one, all.two, all.three, all.refused, all.disagreements
+            "t = {t}: clean {}, one {}, two {}, three {}, refused {refused}, disagreements {disagreements}",
+            corrected(0),
+            corrected(1),
+            corrected(2),
+            corrected(3)
         )?;
     }
     Ok(())

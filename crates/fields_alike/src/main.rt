@@ -1,88 +1,66 @@
 //! The two house fields beside each other, and beside a product by long division: every degree, every pair of bytes.
 #![tactic(auto)]
 
+ghost use Rattle.std.specs.Prelude.{◌<◌};
+
 use field::{Field, ShiftField, TableField};
 use std::io;
 
 /// The product of two polynomials, divided by a third: neither shifts and reduces in turn nor looks anything up.
-fn long_division(a: u8, b: u8, m: u8, divisor: u16) -> u16 {
-    let mut product = 0u16;
-    for i in 0..8u16 {
-        if (b >> i) % 2 == 1 {
-            product ^= (a as u16) << i;
+fn long_division(a: u8, b: u8, divisor: u16) -> u16
+    requires { 0 < divisor }
+{
+    let mut rest = (0..8u16)
+        .filter(|i| (b >> *i) % 2 == 1)
+        .fold(0, |sum, i| sum ^ (u16::from(a) << i));
+    let degree = divisor.ilog2();
+    for i in (degree..16).rev() {
+        if (rest >> i) % 2 == 1 {
+            rest ^= divisor << (i - degree);
         }
     }
-    for i in (0..8u16).rev() {
-        if i + (m as u16) < 16 && (product >> (i + m as u16)) % 2 == 1 {
-            product ^= divisor.wrapping_shl(i as u32);
-        }
-    }
-    product
+    rest
 }
 
-/// How often what was compared came out alike.
-struct Counts {
-    sums: u32,
-    products: u32,
-    divisions: u32,
-    inverses: u32,
-    exponents: u32,
+/// How many bytes have a property.
+fn bytes_with<P: Fn(u8) -> bool>(property: P) -> usize
+    requires { P.IsAlwaysCallable property }
+{
+    (0..=u8::MAX).filter(|a| property(*a)).count()
 }
 
-fn count(slow: &ShiftField, fast: &TableField, m: u8, divisor: u16) -> Counts {
-    let mut c = Counts {
-        sums: 0,
-        products: 0,
-        divisions: 0,
-        inverses: 0,
-        exponents: 0,
-    };
-    let low = if m < 8 { (1u8 << m) - 1 } else { 255 };
-    for a in 0..=255u8 {
-        c.inverses = c
-            .inverses
-            .saturating_add(u32::from(slow.inverse(a) == fast.inverse(a)));
-        c.exponents = c
-            .exponents
-            .saturating_add(u32::from(slow.exponent(a) == fast.exponent(a)));
-        for b in 0..=255u8 {
-            let product = fast.mul(a, b);
-            c.sums = c
-                .sums
-                .saturating_add(u32::from(slow.add(a, b) == fast.add(a, b)));
-            c.products = c
-                .products
-                .saturating_add(u32::from(slow.mul(a, b) == product));
-            c.divisions = c.divisions.saturating_add(u32::from(
-                long_division(a & low, b & low, m, divisor) == product as u16,
-            ));
-        }
-    }
-    c
+/// How many pairs of bytes have a property.
+fn pairs_with<P: Fn(u8, u8) -> bool>(property: P) -> usize
+    requires { P.IsAlwaysCallable property }
+{
+    (0..=u16::MAX)
+        .filter(|pair| {
+            let [a, b] = pair.to_le_bytes();
+            property(a, b)
+        })
+        .count()
 }
 
-fn compare(rt: &HostRuntime, m: u8, divisor: u16) -> io::Result<()> {
+fn compare(rt: &impl Print, m: u8, divisor: u16) -> io::Result<()>
+    requires { 0 < divisor }
+{
     let slow = ShiftField::new(m);
     let fast = TableField::new(m);
-    let c = count(&slow, &fast, m, divisor);
-    let Counts {
-        sums,
-        products,
-        divisions,
-        inverses,
-        exponents,
-    } = c;
+    let sums = pairs_with(|a, b| slow.add(a, b) == fast.add(a, b));
+    let products = pairs_with(|a, b| slow.mul(a, b) == fast.mul(a, b));
+    let low = u8::MAX >> (8 - fast.degree());
+    let divisions = pairs_with(|a, b| {
+        long_division(a & low, b & low, divisor) == u16::from(fast.mul(a, b))
+    });
+    let inverses = bytes_with(|a| slow.inverse(a) == fast.inverse(a));
+    let exponents = bytes_with(|a| slow.exponent(a) == fast.exponent(a));
     println!(rt;
         "m = {m}: sums {sums}, products {products}, by long division {divisions}, inverses {inverses}, exponents {exponents}"
     )
 }
 
 fn power(f: &TableField, p: u8) -> u8 {
-    let mut y = 1;
-    for _i in 0..p {
-        y = f.mul(y, f.alpha());
-    }
-    y
+    (0..p).fold(1, |y, _| f.mul(y, f.alpha()))
 }
 
 fn main(rt: HostRuntime) -> io::Result<()> {

@@ -6,128 +6,115 @@ use book::Book;
 use corrector::Corrector;
 use direct_corrector::DirectCorrector;
 use field::{ShiftField, TableField};
+use history::{Answer, Call, make};
 use layers::{Interleaver, Inverter, Window};
 use memory::{BuiltInCells, ByteCells, Memory, WordCells};
+use std::alloc::{AllocError, Global};
 use std::io;
 use step_corrector::StepCorrector;
 
-/// The bytes of the data that are written into a row.
-fn data_of(row: u32, k: u8) -> [u8; 32] {
-    let mut data = [0u8; 32];
-    let last = (k as usize).saturating_sub(1) / 8;
-    for i in 0..32usize {
-        let pattern = ((37 * i + 11 * (row as usize % 1024) + 5) % 256) as u8;
-        data[i] = if i == last && k % 8 != 0 {
-            pattern % (1 << (k % 8))
-        } else {
-            pattern
-        };
+/// The k bits of data that are written into a row.
+fn data_of(alloc: Global, row: u32, k: u8) -> Result<Vec<u8>, AllocError> {
+    let start = (row.wrapping_mul(11).wrapping_add(5) % 256) as u8;
+    let mut data: Vec<u8> = (0..k.div_ceil(8))
+        .map(|i| i.wrapping_mul(37).wrapping_add(start))
+        .collect(alloc)?;
+    // The unused bits of the last byte are zero.
+    if let Some(last) = data.last_mut() {
+        *last &= u8::MAX >> (k.wrapping_neg() % 8);
     }
-    data
+    Ok(data)
 }
 
-fn write<C: Corrector, M: Memory>(
-    rt: &HostRuntime,
+/// Makes a call and prints it with its answer.
+fn trace<C: Corrector, M: Memory>(
+    rt: &impl Print,
     book: &mut Book<C, M>,
-    row: u32,
+    call: Call<'_>,
 ) -> io::Result<()> {
-    let k = book.data_cells();
-    if k == 0 {
-        return Ok(());
+    match call {
+        Call::Write { row, .. } => print!(rt; "  write {row}: ")?,
+        Call::Read { row } => print!(rt; "  read {row}: ")?,
+        Call::Mend { row } => print!(rt; "  mend {row}: ")?,
+        Call::Sweep => print!(rt; "  sweep: ")?,
+        Call::Knock { from, length } => print!(rt; "  knock {from} {length}: ")?,
     }
-    let data = data_of(row, k);
-    match book.write(row, &data[0..(k as usize + 7) / 8]) {
-        Ok(()) => println!(rt; "  write {row}: ok"),
-        Err(refusal) => println!(rt; "  write {row}: no {}", refusal.number()),
-    }
-}
-
-fn read<C: Corrector, M: Memory>(rt: &HostRuntime, book: &Book<C, M>, row: u32) -> io::Result<()> {
-    let mut data = [0u8; 32];
-    let size = (book.data_cells() as usize + 7) / 8;
-    match book.read(row, &mut data[0..size]) {
-        Ok(count) => println!(rt;
-            "  read {row}: {count}, data {:02X} {:02X}",
+    match make(book, call) {
+        Ok(Answer::Written | Answer::Knocked) => println!(rt; "ok"),
+        Ok(Answer::Read(count, data)) => println!(rt;
+            "{count}, data {:02X} {:02X}",
             data[0], data[1]
         ),
-        Err(refusal) => println!(rt; "  read {row}: no {}", refusal.number()),
+        Ok(Answer::Mended(turned)) => println!(rt; "{turned}"),
+        Ok(Answer::Swept(counts)) => println!(rt;
+            "{} {} {}",
+            counts.accepted, counts.refused, counts.turned
+        ),
+        Err(refusal) => println!(rt; "no {}", refusal.number()),
     }
 }
 
-fn mend<C: Corrector, M: Memory>(
-    rt: &HostRuntime,
-    book: &mut Book<C, M>,
-    row: u32,
-) -> io::Result<()> {
-    match book.mend(row) {
-        Ok(turned) => println!(rt; "  mend {row}: {turned}"),
-        Err(refusal) => println!(rt; "  mend {row}: no {}", refusal.number()),
-    }
-}
-
-fn sweep<C: Corrector, M: Memory>(rt: &HostRuntime, book: &mut Book<C, M>) -> io::Result<()> {
-    let counts = book.sweep();
-    println!(rt;
-        "  sweep: {} {} {}",
-        counts.accepted, counts.refused, counts.turned
-    )
-}
-
-fn knock<C: Corrector, M: Memory>(
-    rt: &HostRuntime,
-    book: &mut Book<C, M>,
-    from: u32,
-    length: u32,
-) -> io::Result<()> {
-    match book.knock(from, length) {
-        Ok(()) => println!(rt; "  knock {from} {length}: ok"),
-        Err(refusal) => println!(rt; "  knock {from} {length}: no {}", refusal.number()),
-    }
-}
-
-/// Light damage: single knocks and one burst, read, mended and swept.
-fn light<C: Corrector, M: Memory>(
-    rt: &HostRuntime,
-    book: &mut Book<C, M>,
-    burst: u32,
-) -> io::Result<()> {
-    let last = book.rows().saturating_sub(1);
-    write(rt, book, 0)?;
-    write(rt, book, last)?;
-    write(rt, book, last.saturating_add(1))?;
-    knock(rt, book, 3, 1)?;
-    read(rt, book, 0)?;
-    mend(rt, book, 0)?;
-    knock(rt, book, 4, burst)?;
-    read(rt, book, 0)?;
-    read(rt, book, last)?;
-    sweep(rt, book)
-}
-
-/// Heavy damage: more than the reach.
-fn heavy<C: Corrector, M: Memory>(rt: &HostRuntime, book: &mut Book<C, M>) -> io::Result<()> {
-    let last = book.rows().saturating_sub(1);
-    let span = book.memory().span();
-    knock(rt, book, span.saturating_sub(1), 2)?;
-    knock(rt, book, 0, 9)?;
-    knock(rt, book, 40, 3)?;
-    read(rt, book, 0)?;
-    mend(rt, book, 0)?;
-    read(rt, book, last)?;
-    sweep(rt, book)?;
-    write(rt, book, 0)?;
-    read(rt, book, 0)
-}
-
+/// Makes the calls on a book whose layers spread a burst of `burst` places over its rows.
 fn run<C: Corrector + Drop, M: Memory + Drop>(
-    rt: &HostRuntime,
+    rt: &(impl Print + AllocGlobal),
     name: &str,
     mut book: Book<C, M>,
     burst: u32,
 ) -> io::Result<()> {
+    let k = book.data_cells();
+    let rows = book.rows();
+    let last = rows.saturating_sub(1);
+    let first_data = data_of(rt.alloc(), 0, k)?;
+    let last_data = data_of(rt.alloc(), last, k)?;
+    let calls = [
+        Call::Write {
+            row: 0,
+            bytes: &first_data,
+        },
+        Call::Write {
+            row: last,
+            bytes: &last_data,
+        },
+        Call::Write {
+            row: rows,
+            bytes: &last_data,
+        },
+        // Light damage: single knocks and one burst.
+        Call::Knock { from: 3, length: 1 },
+        Call::Read { row: 0 },
+        Call::Mend { row: 0 },
+        Call::Knock {
+            from: 4,
+            length: burst,
+        },
+        Call::Read { row: 0 },
+        Call::Read { row: last },
+        Call::Sweep,
+        // Heavy damage: more than the reach.
+        Call::Knock {
+            from: book.memory().span().saturating_sub(1),
+            length: 2,
+        },
+        Call::Knock { from: 0, length: 9 },
+        Call::Knock {
+            from: 40,
+            length: 3,
+        },
+        Call::Read { row: 0 },
+        Call::Mend { row: 0 },
+        Call::Read { row: last },
+        Call::Sweep,
+        Call::Write {
+            row: 0,
+            bytes: &first_data,
+        },
+        Call::Read { row: 0 },
+    ];
     println!(rt; "{name}")?;
-    light(rt, &mut book, burst)?;
-    heavy(rt, &mut book)
+    for call in calls {
+        trace(rt, &mut book, call)?;
+    }
+    Ok(())
 }
 
 fn main(rt: HostRuntime) -> io::Result<()> {

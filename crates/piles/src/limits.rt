@@ -1,9 +1,8 @@
 //! Figures that do not fit, the smallest and the largest memories.
-use crate::page::Page;
-use crate::trace::{Step, interleaver, trace, window};
+use crate::trace::{BYTES, Step, interleaver, lent, trace, window};
 use memory::{ByteCells, WordCells};
 
-pub(crate) fn unfit_windows(page: &mut Page) {
+pub(crate) fn unfit_windows(rt: &impl Print) -> anyhow::Result<()> {
     for (first, length) in [
         (0, 32),
         (0, 33),
@@ -11,22 +10,23 @@ pub(crate) fn unfit_windows(page: &mut Page) {
         (31, 2),
         (32, 0),
         (0, 0),
-        (4294967295, 1),
-        (1, 4294967295),
+        (u32::MAX, 1),
+        (1, u32::MAX),
     ] {
-        let mut bytes = [0x35, 0xc0, 0xff, 0x01];
+        let mut bytes = BYTES;
         window(
-            page,
+            rt,
             ByteCells::new(&mut bytes),
             first,
             length,
             &[Step::Put(0, true), Step::Knock(30, 2), Step::Knock(30, 3)],
-        );
-        page.bytes(&bytes);
+        )?;
+        lent(rt, &bytes)?;
     }
+    Ok(())
 }
 
-pub(crate) fn unfit_interleavers(page: &mut Page) {
+pub(crate) fn unfit_interleavers(rt: &impl Print) -> anyhow::Result<()> {
     for (depth, width) in [
         (16, 2),
         (32, 1),
@@ -39,52 +39,50 @@ pub(crate) fn unfit_interleavers(page: &mut Page) {
         (4, 16),
         (65536, 65536),
     ] {
-        let mut bytes = [0x35, 0xc0, 0xff, 0x01];
+        let mut bytes = BYTES;
         interleaver(
-            page,
+            rt,
             ByteCells::new(&mut bytes),
             depth,
             width,
             &[Step::Put(31, true), Step::Knock(0, 2)],
-        );
-        page.bytes(&bytes);
+        )?;
+        lent(rt, &bytes)?;
     }
+    Ok(())
 }
 
-pub(crate) fn no_cells(page: &mut Page) {
+pub(crate) fn no_cells(rt: &impl Print) -> anyhow::Result<()> {
     let steps = [
         Step::Put(0, true),
         Step::Knock(0, 0),
         Step::Knock(0, 1),
         Step::Knock(1, 0),
     ];
-    page.word("no bytes\n");
+    println!(rt; "no bytes")?;
     let mut bytes: [u8; 0] = [];
-    trace(page, &mut ByteCells::new(&mut bytes), &steps);
-    window(page, ByteCells::new(&mut bytes), 0, 0, &steps);
+    trace(rt, &mut ByteCells::new(&mut bytes), &steps)?;
+    window(rt, ByteCells::new(&mut bytes), 0, 0, &steps)
 }
 
-const LAST_CELLS: [Step; 8] = [
-    Step::Put(262143, false),
-    Step::Put(262144, false),
-    Step::Knock(262136, 4),
-    Step::Knock(262136, 9),
-    Step::Knock(262144, 0),
-    Step::Knock(262145, 0),
-    Step::Knock(4294967295, 1),
-    Step::Knock(1, 4294967295),
-];
-
-pub(crate) fn most_bytes(page: &mut Page) {
-    page.word("32770 bytes, the last five\n");
+/// A memory has at most 262144 cells: the slices are a little longer.
+pub(crate) fn most_cells(rt: &impl Print) -> anyhow::Result<()> {
+    let steps = [
+        Step::Put(262143, false),
+        Step::Put(262144, false),
+        Step::Knock(262136, 4),
+        Step::Knock(262136, 9),
+        Step::Knock(262144, 0),
+        Step::Knock(262145, 0),
+        Step::Knock(u32::MAX, 1),
+        Step::Knock(1, u32::MAX),
+    ];
+    println!(rt; "32770 bytes, the last five")?;
     let mut bytes = [0xb5; 32770];
-    trace(page, &mut ByteCells::new(&mut bytes), &LAST_CELLS);
-    page.bytes(&bytes[32765..32770]);
-}
-
-pub(crate) fn most_words(page: &mut Page) {
-    page.word("8194 words, the last four\n");
+    trace(rt, &mut ByteCells::new(&mut bytes), &steps)?;
+    lent(rt, &bytes[32765..])?;
+    println!(rt; "8194 words, the last four")?;
     let mut words = [0xb500_0001; 8194];
-    trace(page, &mut WordCells::new(&mut words), &LAST_CELLS);
-    page.words(&words[8190..8194]);
+    trace(rt, &mut WordCells::new(&mut words), &steps)?;
+    lent(rt, &words[8190..])
 }

@@ -2,30 +2,22 @@
 //! limits. Each call is shown with its answer and the cells that it leaves; after a pile has gone, the slice that it was lent is shown.
 #![tactic(auto)]
 
-use page::Page;
-use std::io;
-use std::io::Write;
-
 mod deep;
 mod limits;
-mod page;
 mod single;
 mod trace;
 
-fn main(rt: HostRuntime) -> io::Result<()> {
-    let mut page = Page::new();
-    single::bottoms(&mut page);
-    single::over_bytes(&mut page);
-    single::over_words(&mut page);
-    single::over_built_in(&mut page);
-    deep::over_built_in(&mut page);
-    deep::over_bytes(&mut page);
-    deep::over_words(&mut page);
-    deep::transfers(&mut page);
-    limits::unfit_windows(&mut page);
-    limits::unfit_interleavers(&mut page);
-    limits::no_cells(&mut page);
-    limits::most_bytes(&mut page);
-    limits::most_words(&mut page);
-    rt.stdout().write_all(page.text())
+fn main(rt: HostRuntime) -> anyhow::Result<()> {
+    single::bottoms(&rt)?;
+    single::over_bytes(&rt)?;
+    single::over_words(&rt)?;
+    single::over_built_in(&rt)?;
+    deep::over_built_in(&rt)?;
+    deep::over_bytes(&rt)?;
+    deep::over_words(&rt)?;
+    deep::transfers(&rt)?;
+    limits::unfit_windows(&rt)?;
+    limits::unfit_interleavers(&rt)?;
+    limits::no_cells(&rt)?;
+    limits::most_cells(&rt)
 }

@@ -1,9 +1,8 @@
 //! The three bottoms, and each layer over each of them.
-use crate::page::Page;
-use crate::trace::{Step, interleaver, inverter, trace, window};
+use crate::trace::{BYTES, Step, WORDS, interleaver, inverter, lent, trace, window};
 use memory::{BuiltInCells, ByteCells, WordCells};
 
-pub(crate) fn bottoms(page: &mut Page) {
+pub(crate) fn bottoms(rt: &impl Print) -> anyhow::Result<()> {
     let steps = [
         Step::Put(3, true),
         Step::Put(0, false),
@@ -11,39 +10,39 @@ pub(crate) fn bottoms(page: &mut Page) {
         Step::Put(4096, true),
         Step::Knock(0, 4097),
     ];
-    page.word("bytes\n");
-    let mut bytes = [0x35, 0xc0, 0xff, 0x01];
-    trace(page, &mut ByteCells::new(&mut bytes), &steps);
-    page.bytes(&bytes);
-    page.word("words\n");
-    let mut words = [0x8000_0001, 0x0f0f_1234];
-    trace(page, &mut WordCells::new(&mut words), &steps);
-    page.words(&words);
-    page.word("built-in\n");
-    trace(page, &mut BuiltInCells::new(), &steps);
+    println!(rt; "bytes")?;
+    let mut bytes = BYTES;
+    trace(rt, &mut ByteCells::new(&mut bytes), &steps)?;
+    lent(rt, &bytes)?;
+    println!(rt; "words")?;
+    let mut words = WORDS;
+    trace(rt, &mut WordCells::new(&mut words), &steps)?;
+    lent(rt, &words)?;
+    println!(rt; "built-in")?;
+    trace(rt, &mut BuiltInCells::new(), &steps)
 }
 
-pub(crate) fn over_bytes(page: &mut Page) {
-    page.word("over bytes\n");
-    let mut bytes = [0x35, 0xc0, 0xff, 0x01];
+pub(crate) fn over_bytes(rt: &impl Print) -> anyhow::Result<()> {
+    println!(rt; "over bytes")?;
+    let mut bytes = BYTES;
     window(
-        page,
+        rt,
         ByteCells::new(&mut bytes),
         5,
         20,
         &[Step::Put(0, false), Step::Put(20, true), Step::Knock(3, 4)],
-    );
-    page.bytes(&bytes);
+    )?;
+    lent(rt, &bytes)?;
     interleaver(
-        page,
+        rt,
         ByteCells::new(&mut bytes),
         2,
         8,
         &[Step::Put(9, true), Step::Knock(0, 4), Step::Knock(30, 2)],
-    );
-    page.bytes(&bytes);
+    )?;
+    lent(rt, &bytes)?;
     inverter(
-        page,
+        rt,
         ByteCells::new(&mut bytes),
         &[
             Step::Put(9, true),
@@ -51,41 +50,41 @@ pub(crate) fn over_bytes(page: &mut Page) {
             Step::Knock(0, 4),
             Step::Put(32, true),
         ],
-    );
-    page.bytes(&bytes);
+    )?;
+    lent(rt, &bytes)
 }
 
-pub(crate) fn over_words(page: &mut Page) {
-    page.word("over words\n");
-    let mut words = [0x8000_0001, 0x0f0f_1234];
+pub(crate) fn over_words(rt: &impl Print) -> anyhow::Result<()> {
+    println!(rt; "over words")?;
+    let mut words = WORDS;
     window(
-        page,
+        rt,
         WordCells::new(&mut words),
         30,
         10,
         &[Step::Put(9, true), Step::Knock(31, 3), Step::Put(10, true)],
-    );
-    page.words(&words);
+    )?;
+    lent(rt, &words)?;
     interleaver(
-        page,
+        rt,
         WordCells::new(&mut words),
         4,
         8,
         &[Step::Put(63, true), Step::Put(8, true), Step::Knock(28, 8)],
-    );
-    page.words(&words);
+    )?;
+    lent(rt, &words)?;
     inverter(
-        page,
+        rt,
         WordCells::new(&mut words),
         &[Step::Put(0, true), Step::Put(1, false), Step::Knock(60, 4)],
-    );
-    page.words(&words);
+    )?;
+    lent(rt, &words)
 }
 
-pub(crate) fn over_built_in(page: &mut Page) {
-    page.word("over built-in\n");
+pub(crate) fn over_built_in(rt: &impl Print) -> anyhow::Result<()> {
+    println!(rt; "over built-in")?;
     window(
-        page,
+        rt,
         BuiltInCells::new(),
         4090,
         6,
@@ -94,9 +93,9 @@ pub(crate) fn over_built_in(page: &mut Page) {
             Step::Knock(4088, 4),
             Step::Knock(4095, 2),
         ],
-    );
+    )?;
     interleaver(
-        page,
+        rt,
         BuiltInCells::new(),
         16,
         64,
@@ -105,14 +104,14 @@ pub(crate) fn over_built_in(page: &mut Page) {
             Step::Knock(0, 64),
             Step::Put(4096, true),
         ],
-    );
+    )?;
     inverter(
-        page,
+        rt,
         BuiltInCells::new(),
         &[
             Step::Put(2, false),
             Step::Knock(0, 4096),
             Step::Knock(1, 4096),
         ],
-    );
+    )
 }

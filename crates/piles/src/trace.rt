@@ -1,8 +1,8 @@
 //! Layers made and traced: each call with its answer and the cells that it leaves.
-use crate::page::Page;
 use layers::{Interleaver, Inverter, Window};
 use memory::Memory;
 use refusal::Refusal;
+use std::fmt::Display;
 
 /// A call that changes cells.
 #[derive(Clone, Copy)]
@@ -11,87 +11,96 @@ pub(crate) enum Step {
     Knock(u32, u32),
 }
 
+/// What a lent slice of bytes holds at first.
+pub(crate) const BYTES: [u8; 4] = [0x35, 0xc0, 0xff, 0x01];
+
+/// What a lent slice of words holds at first.
+pub(crate) const WORDS: [u32; 2] = [0x8000_0001, 0x0f0f_1234];
+
 /// How many cells and places a line shows at most.
 const SHOWN: u32 = 40;
 
-fn answer(page: &mut Page, r: Result<(), Refusal>) {
-    match r {
-        Ok(()) => page.word(": ok\n"),
-        Err(e) => {
-            page.word(": no ");
-            page.number(e.number() as u32);
-            page.word("\n");
-        }
-    }
-}
-
 pub(crate) fn window<M: Memory + Drop>(
-    page: &mut Page,
+    rt: &impl Print,
     below: M,
     first: u32,
     length: u32,
     steps: &[Step],
-) {
-    page.phrase("window", first, length);
-    answer(page, Window::check(&below, first, length));
-    trace(page, &mut Window::new(below, first, length), steps);
+) -> anyhow::Result<()> {
+    print!(rt; "window {first} {length}")?;
+    answer(rt, Window::check(&below, first, length))?;
+    trace(rt, &mut Window::new(below, first, length), steps)
 }
 
 pub(crate) fn interleaver<M: Memory + Drop>(
-    page: &mut Page,
+    rt: &impl Print,
     below: M,
     depth: u32,
     width: u32,
     steps: &[Step],
-) {
-    page.phrase("interleaver", depth, width);
-    answer(page, Interleaver::check(&below, depth, width));
-    trace(page, &mut Interleaver::new(below, depth, width), steps);
+) -> anyhow::Result<()> {
+    print!(rt; "interleaver {depth} {width}")?;
+    answer(rt, Interleaver::check(&below, depth, width))?;
+    trace(rt, &mut Interleaver::new(below, depth, width), steps)
 }
 
-pub(crate) fn inverter<M: Memory + Drop>(page: &mut Page, below: M, steps: &[Step]) {
-    page.word("inverter\n");
-    trace(page, &mut Inverter::new(below), steps);
+pub(crate) fn inverter<M: Memory + Drop>(
+    rt: &impl Print,
+    below: M,
+    steps: &[Step],
+) -> anyhow::Result<()> {
+    println!(rt; "inverter")?;
+    trace(rt, &mut Inverter::new(below), steps)
 }
 
 /// The number of cells, the span, the places and the cells; then each step with its answer and the cells.
-pub(crate) fn trace<M: Memory>(page: &mut Page, m: &mut M, steps: &[Step]) {
-    page.phrase("  cells and span", m.cells(), m.span());
-    page.word("\n");
-    places(page, m);
-    cells(page, m);
+pub(crate) fn trace<M: Memory>(rt: &impl Print, m: &mut M, steps: &[Step]) -> anyhow::Result<()> {
+    println!(rt; "  cells and span {} {}", m.cells(), m.span())?;
+    print!(rt; "  at")?;
+    for k in 0..m.cells().min(SHOWN) {
+        print!(rt; " {}", m.place(k)?)?;
+    }
+    println!(rt; "")?;
+    cells(rt, m)?;
     for step in steps {
         match *step {
             Step::Put(i, v) => {
-                page.phrase("  put", i, v as u32);
-                answer(page, m.put(i, v));
+                print!(rt; "  put {i} {}", u8::from(v))?;
+                answer(rt, m.put(i, v))?;
             }
             Step::Knock(from, length) => {
-                page.phrase("  knock", from, length);
-                answer(page, m.knock(from, length));
+                print!(rt; "  knock {from} {length}")?;
+                answer(rt, m.knock(from, length))?;
             }
         }
-        cells(page, m);
+        cells(rt, m)?;
     }
+    Ok(())
 }
 
-fn places<M: Memory>(page: &mut Page, m: &M) {
-    page.word("  at");
-    for k in 0..m.cells().min(SHOWN) {
-        if let Ok(p) = m.place(k) {
-            page.byte(b' ');
-            page.number(p);
-        }
+fn answer(rt: &impl Print, r: Result<(), Refusal>) -> anyhow::Result<()> {
+    match r {
+        Ok(()) => println!(rt; ": ok")?,
+        Err(refusal) => println!(rt; ": no {}", refusal.number())?,
     }
-    page.word("\n");
+    Ok(())
 }
 
-fn cells<M: Memory>(page: &mut Page, m: &M) {
-    page.word("  ");
+fn cells<M: Memory>(rt: &impl Print, m: &M) -> anyhow::Result<()> {
+    print!(rt; "  ")?;
     for k in 0..m.cells().min(SHOWN) {
-        if let Ok(v) = m.get(k) {
-            page.number(v as u32);
-        }
+        print!(rt; "{}", u8::from(m.get(k)?))?;
     }
-    page.word("\n");
+    println!(rt; "")?;
+    Ok(())
+}
+
+/// The elements of a slice that was lent, on a line.
+pub(crate) fn lent<E: Display + Drop>(rt: &impl Print, elements: &[E]) -> anyhow::Result<()> {
+    print!(rt; " ")?;
+    for element in elements {
+        print!(rt; " {element}")?;
+    }
+    println!(rt; "")?;
+    Ok(())
 }

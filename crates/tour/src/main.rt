@@ -17,40 +17,43 @@ const ROW: u32 = 31;
 
 const CHECKS: u32 = 10;
 
-fn write(rt: &HostRuntime, book: &mut TourBook, row: u32, value: f64) -> anyhow::Result<()> {
+fn write(rt: &impl Print, book: &mut TourBook, row: u32, value: f64) -> anyhow::Result<()> {
     let [low, high] = to_bytes(entry_of(value)?);
     book.write(row, &[low, high, 0])?;
     println!(rt; "write      row {row}: {value} arcseconds, ok")?;
     Ok(())
 }
 
-fn read(rt: &HostRuntime, book: &TourBook, row: u32) -> anyhow::Result<()> {
-    let mut data = [0u8; 3];
-    let count = book.read(row, &mut data)?;
-    let value = arcseconds(from_bytes([data[0], data[1]]));
+fn read(rt: &impl Print, book: &TourBook, row: u32) -> anyhow::Result<()> {
+    let mut bytes = [0u8; 3];
+    let count = book.read(row, &mut bytes)?;
+    let [low, high, _] = bytes;
+    let value = arcseconds(from_bytes([low, high]));
     println!(rt; "read       row {row}: {value} arcseconds, {count} cells differ")?;
     Ok(())
 }
 
-/// Prints the cells of a row as they are, the check cells apart.
-fn show(rt: &HostRuntime, book: &TourBook, row: u32) -> anyhow::Result<()> {
-    print!(rt; "row {row}      ")?;
-    for p in 0..ROW {
-        let gap = if p == CHECKS { " " } else { "" };
-        let cell = u8::from(book.memory().get(row.wrapping_mul(ROW).wrapping_add(p))?);
-        print!(rt; "{gap}{cell}")?;
+/// Prints the cells of both rows as they are, the check cells apart.
+fn show(rt: &impl Print, book: &TourBook) -> anyhow::Result<()> {
+    for row in 0..2u32 {
+        print!(rt; "row {row}      ")?;
+        for p in 0..ROW {
+            let gap = if p == CHECKS { " " } else { "" };
+            let cell = u8::from(book.memory().get(row * ROW + p)?);
+            print!(rt; "{gap}{cell}")?;
+        }
+        println!(rt; "")?;
     }
-    println!(rt; "")?;
     Ok(())
 }
 
-fn damage(rt: &HostRuntime, book: &mut TourBook) -> anyhow::Result<()> {
+fn damage(rt: &impl Print, book: &mut TourBook) -> anyhow::Result<()> {
     book.knock(20, 4)?;
     println!(rt; "knock      4 places from place 20 on: ok")?;
     Ok(())
 }
 
-fn repair(rt: &HostRuntime, book: &mut TourBook) -> anyhow::Result<()> {
+fn repair(rt: &impl Print, book: &mut TourBook) -> anyhow::Result<()> {
     let turned = book.mend(0)?;
     println!(rt; "mend       row 0: {turned} cells turned")?;
     let swept = book.sweep();
@@ -69,11 +72,9 @@ fn main(rt: HostRuntime) -> anyhow::Result<()> {
     let mut book = Book::blank(DirectCorrector::new(TableField::new(5), 2), cells, 2, 2);
     write(&rt, &mut book, 0, 12.5)?;
     write(&rt, &mut book, 1, -3.25)?;
-    show(&rt, &book, 0)?;
-    show(&rt, &book, 1)?;
+    show(&rt, &book)?;
     damage(&rt, &mut book)?;
-    show(&rt, &book, 0)?;
-    show(&rt, &book, 1)?;
+    show(&rt, &book)?;
     read(&rt, &book, 0)?;
     read(&rt, &book, 1)?;
     repair(&rt, &mut book)?;

@@ -1,13 +1,13 @@
 //! Outside vectors: the generator polynomials as the standard tables print them, and rows worked by hand.
 #![tactic(auto)]
 
-use bch::{data_cells, encode, generator_polynomial};
+use bch::{data_cells, encode, generator_polynomial, row_cells};
 use field::{ShiftField, TableField};
 
 /// Prints n, k, t and the generator in octal for the three codes of one degree.
-fn generators(rt: &HostRuntime, m: u8) -> anyhow::Result<()> {
+fn generators(rt: &impl Print, m: u8) -> anyhow::Result<()> {
     let f = ShiftField::new(m);
-    let n = bch::row_cells(&f);
+    let n = row_cells(&f);
     for t in 1..=3u8 {
         let k = data_cells(&f, t)?;
         let g = generator_polynomial(&f, t)?;
@@ -17,11 +17,12 @@ fn generators(rt: &HostRuntime, m: u8) -> anyhow::Result<()> {
 }
 
 /// Prints the row of the data byte 01 for m = 4.
-fn worked_row(rt: &HostRuntime, t: u8) -> anyhow::Result<()> {
+fn worked_row(rt: &impl Print, t: u8) -> anyhow::Result<()> {
     let f = TableField::new(4);
     let mut row = [0u8; 2];
     encode(&f, t, &[0x01], &mut row)?;
-    println!(rt; "m = 4, t = {t}, data 01: {:02X} {:02X}", row[0], row[1])?;
+    let [first, second] = row;
+    println!(rt; "m = 4, t = {t}, data 01: {first:02X} {second:02X}")?;
     Ok(())
 }
 
