@@ -44,7 +44,7 @@ pub filled_none : (bit : ℕ → Bool) (a : ℕ) (row : List ℕ) → ((i : ℕ)
 filled_none bit a row z i = z i ∙ sym (rw (le-ltb i 0 (omega arith)))
 
 pub filled_more : {U : Type 0} (bit : ℕ → Bool) (a j : ℕ) (row row' : List ℕ) (v : Bool) (r : Result U Refusal) → j < 8 * length row → v ≡ bit (a + j)
-    → Filled bit a j row → Changed (λ _. v) row row' j r → Filled bit a (j + 1) row'
+    → Filled bit a j row → Changed 8 (λ _. v) row row' j r → Filled bit a (j + 1) row'
 filled_more bit a j row row' v (Err x) l e p q i = absurd (omega arith)
 filled_more bit a j row row' v (Ok u) l e p q i = q.1 i ∙ ap₂ (cond (eqb i j)) e (p i) ∙ below_put (λ x. bit (a + x)) j i
 

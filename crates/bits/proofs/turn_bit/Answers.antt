@@ -1,7 +1,11 @@
-use Rattle.std.proofs.Common.{ap, ◌∙◌, arith}
-use Rattle.bits.specs.Bits.{bit_at}
-use Rattle.bits.proofs.Turning.{bit_at-turned_at}
+use Rattle.std.proofs.Common.{◌≡◌, ◌/◌, ◌<◌, get_or, length, rules}
+use Rattle.bits.proofs.Turning.{set_turns}
 use Rattle.bits.proofs.turn_bit.Goals as goal
 
 pub returns : goal.returns
-returns c = (omega arith, λ i. ap (λ ys. bit_at 8 ys i) c.turn_in.ensures ∙ bit_at-turned_at 8 c.args.buffer.now c.args.j i (omega arith))
+returns g c =
+    let e = g.E.Element in
+    let laws = g.met.E.Element in
+    let within : c.args.j / e.WIDTH < length c.args.buffer.now = search rules in
+    let read : c.in_ok-element.element.now ≡ get_or c.args.buffer.now (c.args.j / e.WIDTH) c.in_ok-element.element.now = search rules in
+    rw c.WIDTH-2.ensures (set_turns e.number e.numbers laws.each e.WIDTH c.args.buffer.now c.args.j _ c.turned.result laws.wide within read c.turned.ensures)
