@@ -1,5 +1,5 @@
 -- What turning one bit does to each bit, over the width of the numbers that they are packed in.
-use Rattle.std.proofs.Common.{◌≡◌, ℕ, zero, suc, ◌+◌, ◌-◌, ◌*◌, ◌/◌, ◌%◌, ◌^◌, ◌<◌, Bool, true, false, cond, not, eqb, ◌≢◌, List, length, get_or, replicate, map, set, Ok, sym, refl, ap, ◌∙◌, ⊎_elim, arith, div-lt_iff_lt-mul}
+use Rattle.std.proofs.Common.{◌≡◌, ℕ, zero, suc, ◌+◌, ◌-◌, ◌*◌, ◌/◌, ◌%◌, ◌^◌, ◌<◌, ◌≤◌, Bool, true, false, cond, not, eqb, ◌≢◌, List, length, get_or, replicate, map, set, Ok, sym, refl, ap, ◌∙◌, ⊎_elim, arith, div-lt_iff_lt-mul, mod-eq_of_lt, one-mul}
 use native.Mathlib.Nat.{div_self, div-eq_of_lt, zero-div}
 use lib.Bits.{bit_xor, xor_shr, xor_mod}
 use lib.ListN.{get_or-replicate, length-replicate}
@@ -69,6 +69,13 @@ bit_at-turned_at w xs k i h =
     ap (λ n. bit_of n (i % w)) (get_or-set_other xs (k / w) (i / w) _ 0 q)
     ∙ ap (λ t. cond t (not (bit_at w xs i)) (bit_at w xs i)) (sym (ne_eqb i k (λ e. q (ap (λ n. n / w) e)))))
     (cases_eq (i / w) (k / w))
+
+-- a number of w bits with bit k turned, as it is in a word
+pub word_turned : (x w k : ℕ) → x < 2 ^ w → k < w → w ≤ 32 → bit_xor x (1 * 2 ^ k % 4294967296) % 2 ^ w ≡ bit_xor x (2 ^ k)
+word_turned x w k fits lt narrow =
+    let one : 2 ^ k < 4294967296 = pow_below k 32 (omega arith) in
+    let power : 1 * 2 ^ k % 4294967296 ≡ 2 ^ k = ap (λ n. n % 4294967296) (one-mul (2 ^ k)) ∙ mod-eq_of_lt one in
+    rw power (xor_mod x (2 ^ k) w ∙ rw (mod-eq_of_lt fits, mod-eq_of_lt (pow_below k w lt)))
 
 -- Elements that stand for numbers of w bits: setting one whose number has a bit turned turns that bit.
 pub set_turns : {A : Type 0} (number : A → ℕ) (numbers : List A → List ℕ) → ((xs : List A) → numbers xs ≡ map number xs)

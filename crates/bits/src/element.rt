@@ -1,12 +1,11 @@
 //! The numbers that bits are packed in.
-ghost use Rattle.std.specs.Prelude.{◌≡◌, ℕ, ◌*◌, ◌/◌, ◌%◌, ◌^◌, ◌<◌, List, map, bit_xor};
+ghost use Rattle.std.specs.Prelude.{◌≡◌, ℕ, ◌*◌, ◌/◌, ◌%◌, ◌^◌, ◌<◌, ◌≤◌, List, map};
 ghost use Rattle.std.proofs.Common.{refl, sym, arith};
 ghost use Rattle.std.proofs.lemmas.List.{map-id};
-ghost use Rattle.bits.specs.Bits.{bit_of};
 
-/// An unsigned number whose bits are told apart by an index, bit 0 the least.
+/// An unsigned number of at most 32 bits, whose bits are told apart by an index, bit 0 the least.
 pub trait Element: Copy {
-    /// How many bits it has.
+    /// How many bits it has; a divisor of 64.
     const WIDTH: usize;
 
     ghost WIDTH: { ℕ };
@@ -17,17 +16,20 @@ pub trait Element: Copy {
     /// The numbers of a list of elements.
     ghost numbers: { List Self → List ℕ };
 
-    /// Bit `i` mod WIDTH.
-    fn bit(self, i: usize) -> bool
-        ensures { result ≡ bit_of (number self) (i % WIDTH) };
+    /// The number as a word.
+    fn to_word(self) -> u32
+        ensures same { result ≡ number self }
+        ensures fits { result < 2 ^ WIDTH };
 
-    /// The element with bit `i` mod WIDTH turned over.
-    fn turned(self, i: usize) -> Self
-        ensures { number result ≡ bit_xor (number self) (2 ^ (i % WIDTH)) };
+    /// The low bits of a word.
+    fn from_word(word: u32) -> Self
+        ensures { number result ≡ word % 2 ^ WIDTH };
 
     ghost each: { (xs : List Self) → numbers xs ≡ map number xs };
 
     ghost wide: { 0 < WIDTH };
+
+    ghost narrow: { WIDTH ≤ 32 };
 
     ghost whole: { WIDTH * (64 / WIDTH) ≡ 64 };
 }
@@ -41,17 +43,19 @@ impl Element for u8 {
 
     ghost numbers = { λ xs. xs };
 
-    fn bit(self, i: usize) -> bool {
-        (self >> (i % 8)) % 2 == 1
+    fn to_word(self) -> u32 {
+        u32::from(self)
     }
 
-    fn turned(self, i: usize) -> u8 {
-        self ^ (1 << (i % 8))
+    fn from_word(word: u32) -> u8 {
+        (word % 256) as u8
     }
 
     ghost each = { λ xs. sym (map-id xs) };
 
     ghost wide = { Prim.search arith };
+
+    ghost narrow = { Prim.search arith };
 
     ghost whole = { refl };
 }
@@ -65,17 +69,19 @@ impl Element for u32 {
 
     ghost numbers = { λ xs. xs };
 
-    fn bit(self, i: usize) -> bool {
-        (self >> (i % 32)) % 2 == 1
+    fn to_word(self) -> u32 {
+        self
     }
 
-    fn turned(self, i: usize) -> u32 {
-        self ^ (1 << (i % 32))
+    fn from_word(word: u32) -> u32 {
+        word
     }
 
     ghost each = { λ xs. sym (map-id xs) };
 
     ghost wide = { Prim.search arith };
+
+    ghost narrow = { Prim.search arith };
 
     ghost whole = { refl };
 }

@@ -17,7 +17,7 @@ pub fn bit<E: Element>(buffer: &[E], j: usize) -> Result<bool, Refusal>
     ensures { Got E.WIDTH (E.numbers buffer.now) j result }
 {
     let element = buffer.get(j / E::WIDTH).ok_or(Refusal::Cell)?;
-    Ok(element.bit(j))
+    Ok((element.to_word() >> (j % E::WIDTH)) % 2 == 1)
 }
 
 /// Gives bit j of a buffer a value; refused with 9 where there is none.
@@ -35,7 +35,7 @@ pub fn turn_bit<E: Element>(buffer: &mut [E], j: usize) -> Result<(), Refusal>
     ensures { Changed E.WIDTH not (E.numbers buffer.old) (E.numbers buffer.new) j result }
 {
     let element = buffer.get(j / E::WIDTH).ok_or(Refusal::Cell)?;
-    buffer[j / E::WIDTH] = element.turned(j);
+    buffer[j / E::WIDTH] = E::from_word(element.to_word() ^ 1 << (j % E::WIDTH));
     Ok(())
 }
 
