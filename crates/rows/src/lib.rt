@@ -51,6 +51,7 @@ pub fn zero<M: Memory>(memory: &mut M, n: u32) -> Result<(), Refusal>
     Ok(())
 }
 
+// A run stays two numbers: a struct of them would be made and taken apart again in each call.
 fn check_run<M: Memory>(memory: &M, first: u32, n: u8, row: &[u8]) -> Result<(), Refusal>
     ensures { RunFits (M.Memory.means memory.now) first n row.now result }
 {
