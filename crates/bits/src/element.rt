@@ -5,7 +5,7 @@ ghost use Rattle.std.proofs.lemmas.List.{map-id};
 
 /// An unsigned number of at most 32 bits, whose bits are told apart by an index, bit 0 the least.
 pub trait Element: Copy {
-    /// How many bits it has; a divisor of 64.
+    /// How many bits it has.
     const WIDTH: usize;
 
     ghost WIDTH: { ℕ };
@@ -25,12 +25,16 @@ pub trait Element: Copy {
     fn from_word(word: u32) -> Self
         ensures { number result ≡ word % 2 ^ WIDTH };
 
+    /// The numbers of a list are those of its elements.
     ghost each: { (xs : List Self) → numbers xs ≡ map number xs };
 
+    /// There is a bit,
     ghost wide: { 0 < WIDTH };
 
+    /// a word holds the number,
     ghost narrow: { WIDTH ≤ 32 };
 
+    /// and 64 bits fill whole numbers.
     ghost whole: { WIDTH * (64 / WIDTH) ≡ 64 };
 }
 

@@ -17,14 +17,7 @@ as_turned false b = refl
 run_step : (a k i : ℕ) (b : Bool) → a ≤ k → turned (eqb i k) (turned (in_run a (k - a) i) b) ≡ turned (in_run a (k + 1 - a) i) b
 run_step a k i b h = grind (arith, nat_tests)
 
-none_turned : (a i : ℕ) (b : Bool) → b ≡ turned (in_run a (a - a) i) b
-none_turned a i b = grind (arith, nat_tests)
-
--- A run begins with no cell turned,
-pub run_none : (w : ℕ) (xs : List ℕ) (a : ℕ) → Turned w xs xs a (a - a)
-run_none w xs a = record { bits = λ i. none_turned a i (bit_at w xs i); rest = λ p h. refl }
-
--- and goes on by one cell.
+-- A run goes on by one cell.
 pub run_more : {U : Type 0} (w : ℕ) (xs ys zs : List ℕ) (a k : ℕ) (u : U) → a ≤ k → Turned w xs ys a (k - a) → Changed w not ys zs k (Ok u)
     → Turned w xs zs a (k + 1 - a)
 run_more w xs ys zs a k u le t c = record {
