@@ -1,13 +1,13 @@
 -- What turning one bit does to each bit, over the width of the numbers that they are packed in.
-use Rattle.std.proofs.Common.{◌≡◌, ℕ, zero, suc, ◌+◌, ◌-◌, ◌*◌, ◌/◌, ◌%◌, ◌^◌, ◌<◌, Bool, true, false, cond, not, eqb, ◌≢◌, List, length, get_or, replicate, sym, refl, ap, ◌∙◌, ⊎_elim, arith}
-use mathlib.Core.Bool.{beq}
+use Rattle.std.proofs.Common.{◌≡◌, ℕ, zero, suc, ◌+◌, ◌-◌, ◌*◌, ◌/◌, ◌%◌, ◌^◌, ◌<◌, ◌≤◌, Bool, true, false, cond, not, eqb, ◌≢◌, List, length, get_or, replicate, map, set, Ok, sym, refl, ap, ◌∙◌, ⊎_elim, arith, div-lt_iff_lt-mul, mod-eq_of_lt, one-mul}
 use native.Mathlib.Nat.{div_self, div-eq_of_lt, zero-div}
 use lib.Bits.{bit_xor, xor_shr, xor_mod}
 use lib.ListN.{get_or-replicate, length-replicate}
-use Rattle.std.proofs.lemmas.List.{get_or_past, get_or-set_same, get_or-set_other}
-use Rattle.std.proofs.lemmas.Nat.{pow_pos, pow-add, shl-shr, pow_below, div-add-mod'}
-use Rattle.std.proofs.lemmas.Bool.{eq-eqb, ne_eqb, cases_eq, cases_order, cases_lt, false≢true}
+use Rattle.std.proofs.lemmas.List.{get_or_past, get_or-set_same, get_or-set_other, get_or-map, length-map, map-set, drop-set-lt}
+use Rattle.std.proofs.lemmas.Nat.{pow_pos, pow-add, shl-shr, pow_below, div-add-mod', div_below}
+use Rattle.std.proofs.lemmas.Bool.{eq-eqb, ne_eqb, cases_eq, cases_order, cases_lt}
 use Rattle.bits.specs.Bits.{xor, bit_of, bit_at, turned_at}
+use Rattle.bits.specs.Calls.{Changed}
 
 pub pow-bit_same : (j : ℕ) → 2 ^ j / 2 ^ j % 2 ≡ 1
 pow-bit_same j = ap (λ n. n % 2) (div_self (pow_pos j))
@@ -70,20 +70,26 @@ bit_at-turned_at w xs k i h =
     ∙ ap (λ t. cond t (not (bit_at w xs i)) (bit_at w xs i)) (sym (ne_eqb i k (λ e. q (ap (λ n. n / w) e)))))
     (cases_eq (i / w) (k / w))
 
--- a bit that is not v is v once it is turned
-other : (b v : Bool) → not (beq b v) ≡ true → not b ≡ v
-other true true ne = ne
-other true false ne = refl
-other false true ne = refl
-other false false ne = absurd (false≢true ne)
+-- a number of w bits with bit k turned, as it is in a word
+pub word_turned : (x w k : ℕ) → x < 2 ^ w → k < w → w ≤ 32 → bit_xor x (1 * 2 ^ k % 4294967296) % 2 ^ w ≡ bit_xor x (2 ^ k)
+word_turned x w k fits lt narrow =
+    let one : 2 ^ k < 4294967296 = pow_below k 32 (omega arith) in
+    let power : 1 * 2 ^ k % 4294967296 ≡ 2 ^ k = ap (λ n. n % 4294967296) (one-mul (2 ^ k)) ∙ mod-eq_of_lt one in
+    rw power (xor_mod x (2 ^ k) w ∙ rw (mod-eq_of_lt fits, mod-eq_of_lt (pow_below k w lt)))
 
-pub turn_puts : (w : ℕ) (xs : List ℕ) (k : ℕ) (v : Bool) → k / w < length xs → not (beq (bit_at w xs k) v) ≡ true
-    → (i : ℕ) → bit_at w (turned_at w xs k) i ≡ cond (eqb i k) v (bit_at w xs i)
-turn_puts w xs k v h ne i =
-    bit_at-turned_at w xs k i h ∙ ⊎_elim
-    (λ (e : i ≡ k). rw (eq-eqb i k e) (rw e (other (bit_at w xs k) v ne)))
-    (λ (e : i ≡ k → ⊥). rw (ne_eqb i k e))
-    (cases_eq i k)
+-- Elements that stand for numbers of w bits: setting one whose number has a bit turned turns that bit.
+pub set_turns : {A : Type 0} (number : A → ℕ) (numbers : List A → List ℕ) → ((xs : List A) → numbers xs ≡ map number xs)
+    → (w : ℕ) (xs : List A) (j : ℕ) (x y : A) → 0 < w → j / w < length xs → x ≡ get_or xs (j / w) x → number y ≡ bit_xor (number x) (2 ^ (j % w))
+    → Changed w not (numbers xs) (numbers (set xs (j / w) y)) j (Ok (tt {0}))
+set_turns number numbers each w xs j x y wide lt is turned =
+    let read : get_or (map number xs) (j / w) 0 ≡ number x = get_or-map number xs (j / w) x 0 lt ∙ ap number (sym is) in
+    let set_is : numbers (set xs (j / w) y) ≡ turned_at w (numbers xs) j = each (set xs (j / w) y) ∙ map-set number xs (j / w) y ∙ rw (each, turned, read) in
+    let within : j / w < length (numbers xs) = rw (each, length-map) lt in
+    rw set_is (
+      omega (arith, (div-lt_iff_lt-mul {k = w} wide).0 within),
+      λ i. bit_at-turned_at w (numbers xs) j i within,
+      λ p h. drop-set-lt p (numbers xs) (j / w) _ (div_below j w p wide (omega arith)),
+    )
 
 pub zero_at : (n i : ℕ) → ◌≡◌ {A = ℕ} (get_or (replicate n 0) i 0) 0
 zero_at n i = ⊎_elim (λ lt. get_or-replicate n i 0 0 lt) (λ le. get_or_past (replicate n 0) i 0 (rw length-replicate le)) (cases_lt i n)

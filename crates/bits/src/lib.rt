@@ -1,45 +1,41 @@
-//! Bits in buffers of bytes: bit j is bit j mod 8, 0 the least, of byte j div 8.
+//! Bits in slices of numbers: bit j is bit j mod w, 0 the least, of number j div w, where the numbers have w bits each.
 //!
 //! A buffer for n bits has (n + 7) div 8 bytes, and its unused high bits are zero.
 #![tactic(auto)]
 
 ghost use Rattle.std.specs.Prelude.{◌≡◌, ℕ, ◌+◌, ◌-◌, ◌*◌, ◌/◌, ◌<◌, ◌≤◌, false, not, length};
-ghost use Rattle.bits.specs.Bits.{bit_at, turned_at};
+ghost use Rattle.bits.specs.Bits.{bit_at};
 ghost use Rattle.bits.specs.Calls.{Got, Changed, Admitted};
 
+mod element;
+
+pub use element::Element;
 use refusal::Refusal;
 
 /// Bit j of a buffer; refused with 9 where there is none.
-pub fn bit(buffer: &[u8], j: usize) -> Result<bool, Refusal>
-    ensures { Got buffer.now j result }
+pub fn bit<E: Element>(buffer: &[E], j: usize) -> Result<bool, Refusal>
+    ensures { Got E.WIDTH (E.numbers buffer.now) j result }
 {
-    if j / 8 >= buffer.len() {
-        return Err(Refusal::Cell);
-    }
-    Ok(bit_in(buffer, j))
+    let element = buffer.get(j / E::WIDTH).ok_or(Refusal::Cell)?;
+    Ok((element.to_word() >> (j % E::WIDTH)) % 2 == 1)
 }
 
 /// Gives bit j of a buffer a value; refused with 9 where there is none.
-pub fn put_bit(buffer: &mut [u8], j: usize, value: bool) -> Result<(), Refusal>
-    ensures { Changed (λ _. value) buffer.old buffer.new j result }
+pub fn put_bit<E: Element>(buffer: &mut [E], j: usize, value: bool) -> Result<(), Refusal>
+    ensures { Changed E.WIDTH (λ _. value) (E.numbers buffer.old) (E.numbers buffer.new) j result }
 {
-    if j / 8 >= buffer.len() {
-        return Err(Refusal::Cell);
-    }
-    if bit_in(buffer, j) != value {
-        turn_in(buffer, j);
+    if bit(buffer, j)? != value {
+        turn_bit(buffer, j)?;
     }
     Ok(())
 }
 
 /// Turns bit j of a buffer over; refused with 9 where there is none.
-pub fn turn_bit(buffer: &mut [u8], j: usize) -> Result<(), Refusal>
-    ensures { Changed not buffer.old buffer.new j result }
+pub fn turn_bit<E: Element>(buffer: &mut [E], j: usize) -> Result<(), Refusal>
+    ensures { Changed E.WIDTH not (E.numbers buffer.old) (E.numbers buffer.new) j result }
 {
-    if j / 8 >= buffer.len() {
-        return Err(Refusal::Cell);
-    }
-    turn_in(buffer, j);
+    let element = buffer.get(j / E::WIDTH).ok_or(Refusal::Cell)?;
+    buffer[j / E::WIDTH] = E::from_word(element.to_word() ^ 1 << (j % E::WIDTH));
     Ok(())
 }
 
@@ -58,7 +54,7 @@ pub fn check_buffer(buffer: &[u8], n: u8) -> Result<(), Refusal>
         return Err(Refusal::Length);
     }
     for j in n as usize..8 * buffer.len() {
-        if bit_in(buffer, j) {
+        if bit(buffer, j)? {
             return Err(Refusal::UnusedBit);
         }
     }
@@ -69,21 +65,5 @@ pub fn check_buffer(buffer: &[u8], n: u8) -> Result<(), Refusal>
 pub fn clear(buffer: &mut [u8])
     ensures { (j : ℕ) → bit_at 8 buffer.new j ≡ false }
 {
-    for byte in buffer.iter_mut() {
-        *byte = 0;
-    }
-}
-
-fn bit_in(buffer: &[u8], j: usize) -> bool
-    requires { j < 8 * length buffer.now }
-    ensures { result ≡ bit_at 8 buffer.now j }
-{
-    (buffer[j / 8] >> (j % 8)) % 2 == 1
-}
-
-fn turn_in(buffer: &mut [u8], j: usize)
-    requires { j < 8 * length buffer.old }
-    ensures { buffer.new ≡ turned_at 8 buffer.old j }
-{
-    buffer[j / 8] ^= 1 << (j % 8);
+    buffer.fill(0);
 }

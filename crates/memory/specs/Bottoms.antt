@@ -17,9 +17,14 @@ plain n lent past b = record {
   held = b;
 }
 
--- The cells of a lent slice of numbers of w bits: all of them, or the first 262144. What lies past those is part of what never changes.
+-- The cells of numbers of w bits that are lent under a ghost name: all of them, or the first 262144. What lies past those is part of
+-- what never changes.
+abbrev pub packed_cells : ℕ → ℕ → List ℕ → Mem
+packed_cells w lent xs = plain (min (w * length xs) most) lent (drop (most / w) xs) (bit_at w xs)
+
+-- The cells of a lent slice of numbers of w bits.
 abbrev pub lent_cells : ℕ → MutBor (List ℕ) → Mem
-lent_cells w s = plain (min (w * length s.now) most) s.ghost_name (drop (most / w) s.now) (bit_at w s.now)
+lent_cells w s = packed_cells w s.ghost_name s.now
 
 -- The 4096 cells of 512 bytes that nobody lends.
 abbrev pub own_cells : List ℕ → Mem
@@ -29,8 +34,8 @@ own_cells xs = plain 4096 0 [] (bit_at 8 xs)
 pub plain-sound : (n lent : ℕ) (past : List ℕ) (b : ℕ → Bool) → n ≤ most → Sound (plain n lent past b).layout
 plain-sound n lent past b h = record { small = h; room = omega arith; within = λ k lt. lt; apart = λ i j _ _ e. e }
 
-pub lent_sound : (w : ℕ) (s : MutBor (List ℕ)) → Sound (lent_cells w s).layout
-lent_sound w s = plain-sound (min (w * length s.now) most) s.ghost_name (drop (most / w) s.now) (bit_at w s.now) (omega arith)
+pub packed_sound : (w lent : ℕ) (xs : List ℕ) → Sound (packed_cells w lent xs).layout
+packed_sound w lent xs = plain-sound (min (w * length xs) most) lent (drop (most / w) xs) (bit_at w xs) (omega arith)
 
 pub own_sound : (xs : List ℕ) → Sound (own_cells xs).layout
 own_sound xs = plain-sound 4096 0 [] (bit_at 8 xs) (lit≤ tt)

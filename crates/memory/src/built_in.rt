@@ -4,7 +4,8 @@ ghost use Rattle.memory.specs.Mem.{Layout, Mem, Sound, Got, Placed, Put, Knocked
 ghost use Rattle.memory.specs.Lines.{InLine};
 ghost use Rattle.memory.specs.Bottoms.{own_cells, own_sound};
 
-use crate::{Memory, packing};
+use crate::Memory;
+use crate::run::turn_run;
 use refusal::Refusal;
 
 const CELLS: u32 = 4096;
@@ -38,11 +39,7 @@ impl Memory for BuiltInCells {
     }
 
     fn get(&self, i: u32) -> Result<bool, Refusal> {
-        if i < CELLS {
-            Ok(packing::byte_cell(&self.bytes, i))
-        } else {
-            Err(Refusal::Cell)
-        }
+        bits::bit(&self.bytes, i as usize)
     }
 
     fn place(&self, i: u32) -> Result<u32, Refusal> {
@@ -50,20 +47,10 @@ impl Memory for BuiltInCells {
     }
 
     fn put(&mut self, i: u32, v: bool) -> Result<(), Refusal> {
-        if i < CELLS {
-            packing::put_byte_cell(&mut self.bytes, i, v);
-            Ok(())
-        } else {
-            Err(Refusal::Cell)
-        }
+        bits::put_bit(&mut self.bytes, i as usize, v)
     }
 
     fn knock(&mut self, from: u32, length: u32) -> Result<(), Refusal> {
-        if from <= CELLS && length <= CELLS - from {
-            packing::turn_byte_run(&mut self.bytes, from, length);
-            Ok(())
-        } else {
-            Err(Refusal::Cell)
-        }
+        turn_run(&mut self.bytes, CELLS, from, length)
     }
 }

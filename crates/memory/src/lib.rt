@@ -10,15 +10,13 @@ ghost use Rattle.memory.specs.Mem.{Layout, Mem, Sound, Got, Placed, Put, Knocked
 
 mod built_in;
 mod laws;
-mod lent_bytes;
-mod lent_words;
+mod lent;
 mod owners;
-mod packing;
+mod run;
 
 pub use built_in::BuiltInCells;
 pub use laws::lists_stand;
-pub use lent_bytes::ByteCells;
-pub use lent_words::WordCells;
+pub use lent::{ByteCells, LentCells, WordCells};
 pub use owners::{knock_words, put_in_bytes};
 use refusal::Refusal;
 

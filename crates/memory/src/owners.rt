@@ -2,23 +2,19 @@
 ghost use Rattle.memory.specs.Mem.{Layout, Mem, Put, Knocked};
 ghost use Rattle.memory.specs.Bottoms.{lent_cells};
 
-use crate::Memory;
-use crate::lent_bytes::ByteCells;
-use crate::lent_words::WordCells;
+use crate::{ByteCells, Memory, WordCells};
 use refusal::Refusal;
 
 /// Gives cell `i` of the bytes the value `v`.
 pub fn put_in_bytes(bytes: &mut [u8], i: u32, v: bool) -> Result<(), Refusal>
     ensures { Put (lent_cells 8 bytes.entry) (lent_cells 8 bytes.exit) i v result }
 {
-    let mut cells = ByteCells::new(bytes);
-    cells.put(i, v)
+    ByteCells::new(bytes).put(i, v)
 }
 
 /// Knocks a run of the words' cells.
 pub fn knock_words(words: &mut [u32], from: u32, length: u32) -> Result<(), Refusal>
     ensures { Knocked (lent_cells 32 words.entry) (lent_cells 32 words.exit) from length result }
 {
-    let mut cells = WordCells::new(words);
-    cells.knock(from, length)
+    WordCells::new(words).knock(from, length)
 }

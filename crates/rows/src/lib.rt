@@ -19,12 +19,8 @@ pub fn gather<M: Memory>(memory: &M, first: u32, n: u8, row: &mut [u8]) -> Resul
     check_run(memory, first, n, row)?;
     bits::clear(row);
     for j in 0..n {
-        match memory.get(first + j as u32) {
-            Ok(cell) => {
-                let _ = bits::put_bit(row, j as usize, cell);
-            }
-            Err(_) => unreachable(),
-        }
+        let cell = memory.get(first + j as u32)?;
+        bits::put_bit(row, j as usize, cell)?;
     }
     Ok(())
 }
@@ -36,12 +32,8 @@ pub fn scatter<M: Memory>(memory: &mut M, first: u32, n: u8, row: &[u8]) -> Resu
 {
     check_run(memory, first, n, row)?;
     for j in 0..n {
-        match bits::bit(row, j as usize) {
-            Ok(cell) => {
-                let _ = memory.put(first + j as u32, cell);
-            }
-            Err(_) => unreachable(),
-        }
+        let cell = bits::bit(row, j as usize)?;
+        memory.put(first + j as u32, cell)?;
     }
     Ok(())
 }
@@ -54,15 +46,16 @@ pub fn zero<M: Memory>(memory: &mut M, n: u32) -> Result<(), Refusal>
         return Err(Refusal::Cell);
     }
     for i in 0..n {
-        let _ = memory.put(i, false);
+        memory.put(i, false)?;
     }
     Ok(())
 }
 
+// A run stays two numbers: a struct of them would be made and taken apart again in each call.
 fn check_run<M: Memory>(memory: &M, first: u32, n: u8, row: &[u8]) -> Result<(), Refusal>
     ensures { RunFits (M.Memory.means memory.now) first n row.now result }
 {
-    if row.len() != (n as usize + 7) / 8 {
+    if row.len() != bits::bytes_for(n) {
         return Err(Refusal::Length);
     }
     let cells = memory.cells();

@@ -4,7 +4,7 @@ use Rattle.memory.proofs.owners.put_in_bytes.Goals as goal
 
 pub returns : goal.returns
 returns c =
-    let lent = c.new-cells.ensures.same.1 in
-    let kept = put-names 8 c.new-cells.result.bytes c.put.new.self.bytes _ _ c.put.result c.put.ensures in
-    owner-learns-put 8 c.args.bytes c.new-cells.result.bytes c.put.new.self.bytes _ _ _ c.put.result
-    c.new-cells.ensures.same.0 (search rules) c.put.ensures
+    let lent = c.new.ensures.same.1 in
+    let kept = put-names 8 c.new.result.elements c.put.new.self.elements _ _ c.put.result c.put.ensures in
+    owner-learns-put 8 c.args.bytes c.new.result.elements c.put.new.self.elements _ _ _ c.put.result
+    c.new.ensures.same.0 (search rules) c.put.ensures
