@@ -15,12 +15,10 @@ pub struct TableField {
     /// alpha^p for p below 2n, so that a sum of two exponents needs no reduction.
     powers: [u8; 512],
     exponents: [u8; 256],
-    /// What each byte at each index of a row adds to S_1, S_3 and S_5.
-    first_sums: [u8; 8192],
-    third_sums: [u8; 8192],
-    fifth_sums: [u8; 8192],
+    /// What each byte at each index of a row adds to the syndromes.
+    sums: [Syndromes; 8192],
     ghost tied: { Tables base.m powers exponents },
-    ghost summed: { ByteSums base.m 1 first_sums × ByteSums base.m 3 third_sums × ByteSums base.m 5 fifth_sums },
+    ghost summed: { ByteSums base.m sums },
 }
 
 impl TableField {
@@ -40,16 +38,12 @@ impl TableField {
             exponents[y as usize] = p;
             y = base.times_alpha(y);
         }
-        let first_sums = byte_sums(&base, 1);
-        let third_sums = byte_sums(&base, 3);
-        let fifth_sums = byte_sums(&base, 5);
+        let sums = byte_sums(&base);
         TableField {
             base,
             powers,
             exponents,
-            first_sums,
-            third_sums,
-            fifth_sums,
+            sums,
         }
     }
 }
@@ -96,15 +90,10 @@ impl Field for TableField {
         if row.len() > 32 {
             return self.base.syndromes(row);
         }
-        let mut s1 = 0;
-        let mut s3 = 0;
-        let mut s5 = 0;
+        let mut sums = Syndromes::NONE;
         for (q, byte) in row.iter().enumerate() {
-            let at = 256 * q + *byte as usize;
-            s1 ^= self.first_sums[at];
-            s3 ^= self.third_sums[at];
-            s5 ^= self.fifth_sums[at];
+            sums = sums.plus(self.sums[256 * q + usize::from(*byte)]);
         }
-        Syndromes { s1, s3, s5 }
+        sums
     }
 }
