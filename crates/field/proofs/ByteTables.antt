@@ -1,5 +1,5 @@
 -- The syndromes of a row byte by byte, and the turn of the loop that fills their table. The sums of a house field go bit by bit.
-use Rattle.std.proofs.Common.{◌≡◌, ℕ, zero, suc, ◌+◌, ◌*◌, ◌/◌, ◌%◌, ◌^◌, ◌<◌, ◌≤◌, Bool, true, false, cond, eqb, ◌≢◌, List, length, get_or, set, sym, refl, ap, ◌∙◌, ap₂, inl, inr, add-zero, add-suc, one-mul, arith, pow_mono, pow_pos}
+use Rattle.std.proofs.Common.{◌≡◌, ℕ, zero, suc, ◌+◌, ◌*◌, ◌%◌, ◌^◌, ◌<◌, ◌≤◌, Bool, true, false, cond, eqb, ◌≢◌, List, [], length, replicate, get_or, set, sym, refl, ap, ◌∙◌, ap₂, inl, inr, add-zero, add-suc, one-mul, arith, pow_mono, pow_pos}
 use native.Mathlib.Nat.{div-eq_of_lt}
 use lib.Bits.{bit_xor, xor_zero_l, xor_zero_r, xor_assoc, xor_shifted}
 use Rattle.std.proofs.lemmas.List.{get_or-set_same, get_or-set_other}
@@ -83,45 +83,28 @@ turn m p x fit ex =
         let l = house-laws m fit in
         sum_is F l 0 z (sum_of F 0 z) (0, pow_pos m) (power F (i * p), power-lt F l (i * p)) refl ez refl ∙ xor_zero_l (power F (i * p))
 
--- the first e entries are filled, the others are as they were made
-abbrev pub Filled : ℕ → List Syndromes → ℕ → Type 0
-Filled m table e =
-    ((k : ℕ) (d : Syndromes) → k < e → get_or table k d ≡ byte_sums (house m) (k / 256) (k % 256))
-    × ((k : ℕ) (d : Syndromes) → e ≤ k → k < 8192 → get_or table k d ≡ none)
+-- the first e entries of row q are filled
+abbrev pub Filled : ℕ → ℕ → List Syndromes → ℕ → Type 0
+Filled m q sums e = (v : ℕ) (d : Syndromes) → v < e → get_or sums v d ≡ byte_sums (house m) q v
 
-entry : (m q v k : ℕ) → v < 256 → k ≡ 256 * q + v → byte_sums (house m) (k / 256) (k % 256) ≡ byte_sums (house m) q v
-entry m q v k lt e =
-    let a : k / 256 ≡ q = omega arith in
-    let b : k % 256 ≡ v = omega arith in
-    ap₂ (byte_sums (house m)) a b
+pub fill_zero_byte : (m q : ℕ) → Filled m q (replicate 256 none) 1
+fill_zero_byte m q zero d lt = sym (three (sums_zero m 1 q 8) (sums_zero m 3 q 8) (sums_zero m 5 q 8))
+fill_zero_byte m q (suc v) d lt = absurd (omega arith)
 
-pub fill_zero_byte : (m q : ℕ) (table : List Syndromes) → q < 32 → Filled m table (256 * q) → Filled m table (256 * q + 2 ^ 0)
-fill_zero_byte m q table hq f = (
-  (λ k d lt. elim (cases_eq k (256 * q)) [
-    | inl e ↦ f.1 k d (omega arith) (omega arith) ∙ sym (entry m q 0 k (omega arith) (omega arith) ∙ three (sums_zero m 1 q 8) (sums_zero m 3 q 8) (sums_zero m 5 q 8))
-    | inr ne ↦ f.0 k d (omega arith)
-  ]),
-  λ k d le. f.1 k d (omega arith),
-)
-
-pub fill_byte : (m q j high low x : ℕ) (new : Syndromes) (table : List Syndromes) → Fit m → q < 32 → j < 8 → high ≡ 2 ^ j → low < high
-    → length table ≡ 8192 → x ≡ power (house m) (8 * q + j) → new ≡ plus (get_or table (256 * q + low) none) (with_turn (house m) none x)
-    → Filled m table (256 * q + high + low) → Filled m (set table (256 * q + high + low) new) (256 * q + high + (low + 1))
-fill_byte m q j high low x new table fit hq hj eh lt len ex en f =
-    let at = 256 * q + high + low in
+pub fill_byte : (m q j high low x : ℕ) (new : Syndromes) (sums : List Syndromes) → Fit m → j < 8 → high ≡ 2 ^ j → low < high
+    → length sums ≡ 256 → x ≡ power (house m) (8 * q + j) → new ≡ plus (get_or sums low none) (with_turn (house m) none x)
+    → Filled m q sums (high + low) → Filled m q (set sums (high + low) new) (high + (low + 1))
+fill_byte m q j high low x new sums fit hj eh lt len ex en f v d h =
     let top : 2 ^ j ≤ 2 ^ 7 = pow_mono (let le : j ≤ 7 = omega arith in le) in
-    let small : high + low < 256 = omega arith in
-    let room : at < length table = omega arith in
-    let value : new ≡ byte_sums (house m) q (high + low) =
-    en ∙ ap₂ plus (f.0 (256 * q + low) none (omega arith) ∙ entry m q low (256 * q + low) (omega arith) refl) (turn m (8 * q + j) x fit ex)
-    ∙ sym (ap (λ h. byte_sums (house m) q (h + low)) eh
-    ∙ three (with_bit j low (omega arith) m 1 q hj) (with_bit j low (omega arith) m 3 q hj) (with_bit j low (omega arith) m 5 q hj)) in (
-      (λ k d h. elim (cases_eq k at) [
-        | inl e ↦ ap (λ z. get_or (set table at new) z d) e ∙ get_or-set_same table at _ d room ∙ value ∙ sym (entry m q (high + low) k small (omega arith))
-        | inr ne ↦ get_or-set_other table at k _ d ne ∙ f.0 k d (omega arith)
-      ]),
-      λ k d h. λ inside. get_or-set_other table at k _ d (let ne : k ≢ at = omega arith in ne) ∙ f.1 k d (omega arith) inside,
-    )
+    let room : high + low < length sums = omega arith in
+    elim (cases_eq v (high + low)) [
+      | inl e ↦
+          ap (λ z. get_or (set sums (high + low) new) z d) e ∙ get_or-set_same sums (high + low) _ d room
+          ∙ en ∙ ap₂ plus (f low none (omega arith)) (turn m (8 * q + j) x fit ex)
+          ∙ sym (ap (byte_sums (house m) q) (e ∙ ap (λ h. h + low) eh)
+          ∙ three (with_bit j low (omega arith) m 1 q hj) (with_bit j low (omega arith) m 3 q hj) (with_bit j low (omega arith) m 5 q hj))
+      | inr ne ↦ get_or-set_other sums (high + low) v _ d ne ∙ f v d (omega arith)
+    ]
 
 -- ---- the row
 sums_more : (m i q v : ℕ) (c : ℕ → Bool) → ((b : ℕ) → b < 8 → c (8 * q + b) ≡ bit_of v b) → (k : ℕ) → k ≤ 8
@@ -134,13 +117,12 @@ sums_more m i q v c same (suc k) le =
     ∙ xor_assoc (power_sum (house m) i c (8 * q)) (bit_sums (house m) i q v k) (cond (bit_of v k) (power (house m) (i * (8 * q + k))) 0)
 
 -- one byte more
-pub sum_byte : (m q v : ℕ) (s : Syndromes) (row : List ℕ) (table : List Syndromes) → ByteSums m table
+pub sum_byte : (m q v : ℕ) (s : Syndromes) (row : List ℕ) (table : List (List Syndromes)) → ByteSums m table
     → q < 32 → v < 256 → v ≡ get_or row q 0 → s ≡ syndromes_of (house m) (bit_at 8 row) (8 * q)
-    → plus s (get_or table (256 * q + v) none) ≡ syndromes_of (house m) (bit_at 8 row) (8 * (q + 1))
+    → plus s (get_or (get_or table q []) v none) ≡ syndromes_of (house m) (bit_at 8 row) (8 * (q + 1))
 sum_byte m q v s row table t hq hv ev es =
     let up : 8 * q + 8 ≡ 8 * (q + 1) = omega arith in
-    ap₂ plus es (t (256 * q + v) none (omega arith) ∙ entry m q v (256 * q + v) hv refl)
-    ∙ three (more 1) (more 3) (more 5) ∙ ap (syndromes_of (house m) (bit_at 8 row)) up
+    ap₂ plus es (t q v hq hv none) ∙ three (more 1) (more 3) (more 5) ∙ ap (syndromes_of (house m) (bit_at 8 row)) up
   where
     more : (i : ℕ) → bit_xor (power_sum (house m) i (bit_at 8 row) (8 * q)) (bit_sums (house m) i q v 8) ≡ power_sum (house m) i (bit_at 8 row) (8 * q + 8)
     more i = sym (sums_more m i q v (bit_at 8 row) (λ b h. bit_of-byte row q b h ∙ ap (λ v. bit_of v b) (sym ev)) 8 (omega arith))

@@ -1,5 +1,5 @@
 -- The tables of a house field: the powers of alpha, over two turns, the exponent of each element, and the syndromes of each byte of a row.
-use Rattle.std.specs.Prelude.{◌≡◌, ℕ, zero, suc, ◌+◌, ◌-◌, ◌*◌, ◌/◌, ◌%◌, ◌^◌, ◌<◌, cond, List, slice_index, slice_index_or}
+use Rattle.std.specs.Prelude.{◌≡◌, ℕ, zero, suc, ◌+◌, ◌-◌, ◌*◌, ◌^◌, ◌<◌, cond, List, [], slice_index, slice_index_or}
 use Rattle.bits.specs.Bits.{bit_of}
 use Rattle.galois.specs.House.{house}
 use Rattle.galois.specs.Model.{FieldModel, power}
@@ -21,6 +21,6 @@ bit_sums F i q v (suc k) = F.add (bit_sums F i q v k) (cond (bit_of v k) (power 
 abbrev pub byte_sums : FieldModel → ℕ → ℕ → Syndromes
 byte_sums F q v = record { s1 = bit_sums F 1 q v 8; s3 = bit_sums F 3 q v 8; s5 = bit_sums F 5 q v 8 }
 
--- entry 256 q + v of the table is what the byte v adds to the syndromes as the q-th of a row
-abbrev pub ByteSums : ℕ → List Syndromes → Type 0
-ByteSums m table = (k : ℕ) (none : Syndromes) → k < 8192 → slice_index_or table k none ≡ byte_sums (house m) (k / 256) (k % 256)
+-- entry v of row q is what the byte v adds to the syndromes as the q-th of a row
+abbrev pub ByteSums : ℕ → List (List Syndromes) → Type 0
+ByteSums m table = (q v : ℕ) → q < 32 → v < 256 → (none : Syndromes) → slice_index_or (slice_index_or table q []) v none ≡ byte_sums (house m) q v

@@ -16,7 +16,7 @@ pub struct TableField {
     powers: [u8; 512],
     exponents: [u8; 256],
     /// What each byte at each index of a row adds to the syndromes.
-    sums: [Syndromes; 8192],
+    sums: [[Syndromes; 256]; 32],
     ghost tied: { Tables base.m powers exponents },
     ghost summed: { ByteSums base.m sums },
 }
@@ -92,7 +92,7 @@ impl Field for TableField {
         }
         let mut sums = Syndromes::NONE;
         for (q, byte) in row.iter().enumerate() {
-            sums = sums.plus(self.sums[256 * q + usize::from(*byte)]);
+            sums = sums.plus(self.sums[q][usize::from(*byte)]);
         }
         sums
     }

@@ -1,4 +1,4 @@
-use Rattle.std.proofs.Common.{◌≡◌, suc, ◌+◌, ◌*◌, ◌^◌, ◌<◌, sym, refl, ap, ◌∙◌, subst, add-zero, pow-suc, add-one, arith, get_or, length-set}
+use Rattle.std.proofs.Common.{◌≡◌, ◌+◌, ◌*◌, ◌^◌, sym, refl, ap, ◌∙◌, subst, add-zero, pow-suc, add-one, arith, get_or, length, replicate, [], length-set}
 use Rattle.std.proofs.lemmas.Nat.{one_shl}
 use Rattle.std.proofs.lemmas.List.{get_or-replicate}
 use Rattle.galois.specs.House.{house, shift}
@@ -9,15 +9,20 @@ use Rattle.field.proofs.Summed.{none}
 use Rattle.field.proofs.Turns.{power-next}
 use Rattle.field.proofs.byte_sums.byte_sums.Goals as goal
 
-pub loop-q-init : goal.loop-q-init
+pub loop-sums-init : goal.loop-sums-init
 unfolding power
-loop-q-init c = (refl, refl, ((λ k d h. absurd (omega arith)), λ k d h inside. get_or-replicate 8192 k none d inside))
+loop-sums-init c = (refl, refl, (λ q h. absurd (omega arith)), λ q h inside. get_or-replicate 32 q (replicate 256 none) [] inside)
 
 pub loop-j-init : goal.loop-j-init
 loop-j-init c =
+    let l = c.loop-sums in
     let m = c.args.base.now.m in
-    let l = c.loop-q in
-    (l.invariant.0, l.invariant.1 ∙ ap (power (house m)) (sym (add-zero (8 * l.q))), fill_zero_byte m l.q l.table c.loop-q-test.true l.invariant.2)
+    let q = l.sums-index in
+    let made = l.invariant.3 q (omega arith) (omega arith) in (
+      ap length made,
+      l.invariant.1 ∙ ap (power (house m)) (sym (add-zero (8 * q))),
+      subst (λ s. Filled m q s 1) (sym made) (fill_zero_byte m q),
+    )
 
 pub loop-low-preserved : goal.loop-low-preserved
 loop-low-preserved c =
@@ -25,14 +30,15 @@ loop-low-preserved c =
     let j = c.loop-j.j in
     let high = one_shl j 64 (omega arith) in (
       simp length-set l.invariant.0,
-      fill_byte c.args.base.now.m c.loop-q.q j _ l.low c.loop-j.x _ l.table c.args.base.now.fit c.loop-q-test.true c.loop-j-test.true
-          high c.loop-low-test.true l.invariant.0 c.loop-j.invariant.1 (c.plus.ensures ∙ ap (plus (get_or l.table (256 * c.loop-q.q + l.low) none)) c.turned-turn.ensures) l.invariant.1,
+      fill_byte c.args.base.now.m c.loop-sums.sums-index j _ l.low c.loop-j.x _ l.sums c.args.base.now.fit c.loop-j-test.true
+          high c.loop-low-test.true l.invariant.0 c.loop-j.invariant.1
+          (c.plus.ensures ∙ ap (plus (get_or l.sums l.low none)) c.turned-turn.ensures) l.invariant.1,
     )
 
 pub loop-j-preserved : goal.loop-j-preserved
 loop-j-preserved c =
     let m = c.args.base.now.m in
-    let q = c.loop-q.q in
+    let q = c.loop-sums.sums-index in
     let j = c.loop-j.j in
     let l = c.loop-low in
     let high = one_shl j 64 (omega arith) in
@@ -40,5 +46,5 @@ loop-j-preserved c =
     let double : 2 ^ (j + 1) ≡ 2 ^ j * 2 = ap (λ n. 2 ^ n) (add-one j) ∙ pow-suc 2 j in (
       l.invariant.0,
       c.times_alpha-x.ensures ∙ ap (shift m) c.loop-j.invariant.1 ∙ power-next m (8 * q + j) c.args.base.now.fit ∙ ap (power (house m)) up,
-      subst (Filled m l.table) (omega arith) l.invariant.1,
+      subst (Filled m q l.sums) (omega arith) l.invariant.1,
     )
