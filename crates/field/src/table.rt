@@ -33,9 +33,9 @@ impl TableField {
         exponents[0] = n;
         let mut y = 1;
         for p in 0..n {
-            powers[p as usize] = y;
-            powers[p as usize + n as usize] = y;
-            exponents[y as usize] = p;
+            powers[usize::from(p)] = y;
+            powers[usize::from(p) + usize::from(n)] = y;
+            exponents[usize::from(y)] = p;
             y = base.times_alpha(y);
         }
         let sums = byte_sums(&base);
@@ -66,24 +66,21 @@ impl Field for TableField {
     }
 
     fn mul(&self, a: u8, b: u8) -> u8 {
-        let x = self.base.element(a);
-        let y = self.base.element(b);
-        if x == 0 || y == 0 {
+        if self.base.element(a) == 0 || self.base.element(b) == 0 {
             return 0;
         }
-        self.powers[self.exponents[x as usize] as usize + self.exponents[y as usize] as usize]
+        self.powers[usize::from(self.exponent(a)) + usize::from(self.exponent(b))]
     }
 
     fn inverse(&self, a: u8) -> u8 {
-        let x = self.base.element(a);
-        if x == 0 {
+        if self.base.element(a) == 0 {
             return 0;
         }
-        self.powers[self.base.units() as usize - self.exponents[x as usize] as usize]
+        self.powers[usize::from(self.base.units() - self.exponent(a))]
     }
 
     fn exponent(&self, a: u8) -> u8 {
-        self.exponents[self.base.element(a) as usize]
+        self.exponents[usize::from(self.base.element(a))]
     }
 
     fn syndromes(&self, row: &[u8]) -> Syndromes {
