@@ -13,6 +13,7 @@ use Rattle.galois.proofs.Tabulated.{length-tabulate, get_or-tabulate, tabulate-c
 use Rattle.bch.specs.Buffers.{shown}
 use Rattle.bch.specs.Published.{shifted, IsGenerator, ByDivision}
 use Rattle.bch.specs.Steps.{register, laid}
+use Rattle.bch.proofs.Laying.{laid-low, laid-high, laid-past}
 use Rattle.bch.proofs.CodeRows.{Packs, all_cells, one_row, register-code}
 use Rattle.bch.proofs.Published.{g, generates, code_multiple, xor_self, shifted-low, shifted-from}
 
@@ -31,19 +32,6 @@ shown-code F t buffer code = record {
 
 bit_of-past : (x i : ℕ) → x < 2 ^ i → bit_of x i ≡ false
 bit_of-past x i h = ap (λ y. eqb (y % 2) 1) (div-eq_of_lt h)
-
-laid-low : (check r : ℕ) (given : List ℕ) (k j : ℕ) → j < r → laid check r given k j ≡ bit_of check j
-laid-low check r given k j h = ap (λ b. cond b (bit_of check j) (cond (ltb j (r + k)) (bit_at 8 given (j - r)) false)) (lt-ltb j r h)
-
-laid-high : (check r : ℕ) (given : List ℕ) (k j : ℕ) → j < k → laid check r given k (r + j) ≡ bit_at 8 given j
-laid-high check r given k j h =
-    let z : (r + j) - r ≡ j = omega arith in
-    ap₂ (λ a b. cond a (bit_of check (r + j)) (cond b (bit_at 8 given ((r + j) - r)) false)) (le-ltb (r + j) r (omega arith)) (lt-ltb (r + j) (r + k) (omega arith))
-    ∙ ap (bit_at 8 given) z
-
-laid-past : (check r : ℕ) (given : List ℕ) (k j : ℕ) → r + k ≤ j → laid check r given k j ≡ false
-laid-past check r given k j h =
-    ap₂ (λ a b. cond a (bit_of check j) (cond b (bit_at 8 given (j - r)) false)) (le-ltb j r (omega arith)) (le-ltb j (r + k) h)
 
 module _ (F : FieldModel) (l : FieldLaws F) (t : ℕ) (few : Few t) where
   abbrev r : ℕ

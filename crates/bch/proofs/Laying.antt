@@ -1,6 +1,6 @@
 -- One more bit put down.
-use Rattle.std.proofs.Common.{◌≡◌, ℕ, ◌+◌, ◌-◌, Bool, false, cond, eqb, ltb, List, sym, ap, ◌∙◌, ap₂, inl, inr, arith}
-use Rattle.std.proofs.lemmas.Bool.{cases_order, eq-eqb, ne_eqb, lt-ltb, le-ltb}
+use Rattle.std.proofs.Common.{◌≡◌, ℕ, ◌+◌, ◌-◌, ◌<◌, ◌≤◌, Bool, false, cond, eqb, ltb, List, sym, ap, ◌∙◌, ap₂, inl, inr, arith}
+use Rattle.std.proofs.lemmas.Bool.{cases_order, cases_lt, eq-eqb, ne_eqb, lt-ltb, le-ltb}
 use Rattle.bits.specs.Bits.{bit_of, bit_at}
 use Rattle.bch.specs.Steps.{laid}
 
@@ -30,4 +30,25 @@ laid-put check r given j i = elim (cases_order i (r + j)) [
   | inr (inr gt) ↦
       ap₂ (λ a b. cond a (bit_at 8 given j) (cond (ltb i r) (bit_of check i) (cond b (bit_at 8 given (i - r)) false))) (ne_eqb i (r + j) (λ e. omega arith)) (le-ltb i (r + j) (omega arith))
       ∙ sym (ap (λ b. cond (ltb i r) (bit_of check i) (cond b (bit_at 8 given (i - r)) false)) (le-ltb i (r + (j + 1)) (omega arith)))
+]
+
+-- the check cells, the data cells, and what is past them
+pub laid-low : (check r : ℕ) (given : List ℕ) (k j : ℕ) → j < r → laid check r given k j ≡ bit_of check j
+laid-low check r given k j h = ap (λ b. cond b (bit_of check j) (cond (ltb j (r + k)) (bit_at 8 given (j - r)) false)) (lt-ltb j r h)
+
+pub laid-high : (check r : ℕ) (given : List ℕ) (k j : ℕ) → j < k → laid check r given k (r + j) ≡ bit_at 8 given j
+laid-high check r given k j h =
+    let z : (r + j) - r ≡ j = omega arith in
+    ap₂ (λ a b. cond a (bit_of check (r + j)) (cond b (bit_at 8 given ((r + j) - r)) false)) (le-ltb (r + j) r (omega arith)) (lt-ltb (r + j) (r + k) (omega arith))
+    ∙ ap (bit_at 8 given) z
+
+pub laid-past : (check r : ℕ) (given : List ℕ) (k j : ℕ) → r + k ≤ j → laid check r given k j ≡ false
+laid-past check r given k j h =
+    ap₂ (λ a b. cond a (bit_of check j) (cond b (bit_at 8 given (j - r)) false)) (le-ltb j r (omega arith)) (le-ltb j (r + k) h)
+
+-- the check cells alone
+pub laid-none : (check r : ℕ) (given : List ℕ) (i : ℕ) → cond (ltb i r) (bit_of check i) false ≡ laid check r given 0 i
+laid-none check r given i = elim (cases_lt i r) [
+  | inl lt ↦ ap (λ b. cond b (bit_of check i) false) (lt-ltb i r lt) ∙ sym (laid-low check r given 0 i lt)
+  | inr le ↦ ap (λ b. cond b (bit_of check i) false) (le-ltb i r le) ∙ sym (laid-past check r given 0 i (omega arith))
 ]

@@ -5,6 +5,7 @@ use Rattle.galois.specs.Cosets.{exponent}
 use Rattle.galois.specs.Model.{FieldModel, units, power}
 use Rattle.galois.specs.Polynomials.{generated}
 use Rattle.galois.specs.Ring.{numbers}
+use Rattle.galois.specs.Rows.{check_cells, data_cells}
 
 -- coefficient i of the product of x + alpha ^ j over the first d exponents j of the cosets
 abbrev pub coefficient : FieldModel → ℕ → ℕ → ℕ
@@ -22,3 +23,14 @@ register g r c s (suc q) = turned g r (register g r c (suc s) q) (c s)
 -- position j of a row with the r check cells below the k data cells
 abbrev pub laid : ℕ → ℕ → List ℕ → ℕ → ℕ → Bool
 laid check r given k j = cond (nat_lt j r) (bit_of check j) (cond (nat_lt j (r + k)) (bit_at 8 given (j - r)) false)
+
+-- the register after all data cells, and the row laid down with it
+abbrev pub data_register : FieldModel → ℕ → ℕ → List ℕ → ℕ
+data_register F t g given = register g (check_cells F.m t) (bit_at 8 given) 0 (data_cells F.m t)
+
+abbrev pub row_laid : FieldModel → ℕ → ℕ → List ℕ → ℕ → Bool
+row_laid F t check given j = laid check (check_cells F.m t) given (data_cells F.m t) j
+
+-- the check cells and the data cells together
+abbrev pub all_cells : FieldModel → ℕ → ℕ
+all_cells F t = check_cells F.m t + data_cells F.m t

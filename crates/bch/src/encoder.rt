@@ -1,12 +1,13 @@
 //! The systematic encoder, and taking the data out again.
-ghost use Rattle.std.specs.Prelude.{◌≡◌, ℕ, ◌+◌, ◌*◌, ◌<◌, ◌≤◌, true, length, is_ok};
+ghost use Rattle.std.specs.Prelude.{◌≡◌, ℕ, ◌*◌, ◌≤◌, true, length, is_ok};
 ghost use Rattle.bits.specs.Bits.{bit_at};
+ghost use Rattle.galois.specs.Rows.{data_cells};
 ghost use Rattle.bch.specs.Calls.{Encoded, Extracted};
-ghost use Rattle.bch.specs.Steps.{register, laid};
+ghost use Rattle.bch.specs.Steps.{data_register, row_laid, all_cells};
 
-use crate::generator::generator;
-use crate::sizes::{check_cells, check_strength, row_cells};
-use bits::{bit, check_buffer, clear, put_bit};
+use crate::code::Code;
+use crate::sizes::row_cells;
+use bits::{bit, bytes_for, check_buffer, clear, put_bit};
 use field::Field;
 use refusal::Refusal;
 
@@ -15,15 +16,12 @@ use refusal::Refusal;
 pub fn encode<F: Field>(f: &F, t: u8, data: &[u8], row: &mut [u8]) -> Result<(), Refusal>
     ensures { Encoded (F.Field.model f.now) t «data».now row.old row.new result }
 {
-    check_strength(t)?;
-    let n = row_cells(f);
-    let r = check_cells(f, t);
-    if row.len() != (n as usize + 7) / 8 {
+    let code = Code::new(f, t)?;
+    if row.len() != bytes_for(row_cells(f)) {
         return Err(Refusal::Length);
     }
-    check_buffer(data, n - r)?;
-    let check = remainder(generator(f, t), r, data, n - r);
-    lay(check, r, data, n - r, row)
+    check_buffer(data, code.data_cells())?;
+    code.lay(code.remainder(code.generator(), data), data, row)
 }
 
 /// Leaves in the data buffer the data of the row. Refused with 3 for a t that does not fit, with 7 for a buffer of the wrong length, with 8
@@ -31,55 +29,58 @@ pub fn encode<F: Field>(f: &F, t: u8, data: &[u8], row: &mut [u8]) -> Result<(),
 pub fn extract<F: Field>(f: &F, t: u8, row: &[u8], data: &mut [u8]) -> Result<(), Refusal>
     ensures { Extracted (F.Field.model f.now) t row.now «data».old «data».new result }
 {
-    check_strength(t)?;
-    let n = row_cells(f);
-    let r = check_cells(f, t);
-    if data.len() != ((n - r) as usize + 7) / 8 {
+    let code = Code::new(f, t)?;
+    let k = code.data_cells();
+    if data.len() != bytes_for(k) {
         return Err(Refusal::Length);
     }
-    check_buffer(row, n)?;
+    check_buffer(row, row_cells(f))?;
     clear(data);
-    for j in 0..(n - r) as usize {
-        put_bit(data, j, bit(row, r as usize + j)?)?;
+    let r = usize::from(code.check_cells());
+    for j in 0..usize::from(k) {
+        put_bit(data, j, bit(row, r + j)?)?;
     }
     Ok(())
 }
 
-/// The shift register of r bits after the k bits of the data, the highest first.
-fn remainder(g: u32, r: u8, data: &[u8], k: u8) -> u32
-    requires checks { (1 ≤ r) × (r ≤ 24) }
-    requires given { k ≤ 8 * length «data».now }
-    ensures { result ≡ register g r (bit_at 8 «data».now) 0 k }
-{
-    let mask = (1u32 << r) - 1;
-    let low = g & mask;
-    let mut all = 0u32;
-    let mut s = k as usize;
-    while s > 0 {
-        s -= 1;
-        let top = (all >> (r - 1)) % 2 == 1;
-        all = (2 * all) & mask;
-        if top != ((data[s / 8] >> (s % 8)) % 2 == 1) {
-            all ^= low;
+impl<'a, F: Field> Code<'a, F> {
+    /// The shift register of g after the data cells, the highest first.
+    fn remainder(&self, g: u32, data: &[u8]) -> u32
+        requires { data_cells (F.Field.model self.now.field.now).m self.now.t ≤ 8 * length «data».now }
+        ensures { result ≡ data_register (F.Field.model self.now.field.now) self.now.t g «data».now }
+    {
+        let r = self.check_cells();
+        let k = usize::from(self.data_cells());
+        let mask = (1u32 << r) - 1;
+        let low = g & mask;
+        let mut all = 0u32;
+        for s in (0..k).rev() {
+            let top = (all >> (r - 1)) % 2 == 1;
+            all = (2 * all) & mask;
+            // Not `bit`: each s is within the data, and its refusal would be one more answer to hand on.
+            if top != ((data[s / 8] >> (s % 8)) % 2 == 1) {
+                all ^= low;
+            }
         }
+        all
     }
-    all
-}
 
-/// Lays the r check cells and then the k data cells into a row buffer that has room for them.
-fn lay(check: u32, r: u8, data: &[u8], k: u8, row: &mut [u8]) -> Result<(), Refusal>
-    requires checks { r ≤ 24 }
-    requires given { k ≤ 8 * length «data».now }
-    requires room { r + k ≤ 8 * length row.old }
-    ensures done { is_ok result ≡ true }
-    ensures cells { (j : ℕ) → bit_at 8 row.new j ≡ laid check r «data».now k j }
-{
-    clear(row);
-    for j in 0..r as usize {
-        put_bit(row, j, (check >> j) % 2 == 1)?;
+    /// Lays the check cells and then the data cells into a row buffer that has room for them.
+    fn lay(&self, check: u32, data: &[u8], row: &mut [u8]) -> Result<(), Refusal>
+        requires given { data_cells (F.Field.model self.now.field.now).m self.now.t ≤ 8 * length «data».now }
+        requires room { all_cells (F.Field.model self.now.field.now) self.now.t ≤ 8 * length row.old }
+        ensures done { is_ok result ≡ true }
+        ensures cells { (j : ℕ) → bit_at 8 row.new j ≡ row_laid (F.Field.model self.now.field.now) self.now.t check «data».now j }
+    {
+        let r = usize::from(self.check_cells());
+        let k = usize::from(self.data_cells());
+        clear(row);
+        for j in 0..r {
+            put_bit(row, j, (check >> j) % 2 == 1)?;
+        }
+        for j in 0..k {
+            put_bit(row, r + j, bit(data, j)?)?;
+        }
+        Ok(())
     }
-    for j in 0..k as usize {
-        put_bit(row, r as usize + j, bit(data, j)?)?;
-    }
-    Ok(())
 }

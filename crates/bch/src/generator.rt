@@ -4,11 +4,12 @@ ghost use Rattle.bits.specs.Bits.{bit_of};
 ghost use Rattle.galois.specs.Model.{size};
 ghost use Rattle.galois.specs.Polynomials.{factor};
 ghost use Rattle.galois.specs.Ring.{numbers};
-ghost use Rattle.galois.specs.Rows.{Few, check_cells};
+ghost use Rattle.galois.specs.Rows.{check_cells};
 ghost use Rattle.bch.specs.Calls.{Generated};
 ghost use Rattle.bch.specs.Steps.{coefficient};
 
-use crate::sizes::{check_cells, check_strength, row_cells};
+use crate::code::Code;
+use crate::sizes::row_cells;
 use field::Field;
 use refusal::Refusal;
 
@@ -16,43 +17,44 @@ use refusal::Refusal;
 pub fn generator_polynomial<F: Field>(f: &F, t: u8) -> Result<u32, Refusal>
     ensures { Generated (F.Field.model f.now) t result }
 {
-    check_strength(t)?;
-    Ok(generator(f, t))
+    Ok(Code::new(f, t)?.generator())
 }
 
-pub(crate) fn generator<F: Field>(f: &F, t: u8) -> u32
-    requires { Few t }
-    ensures below { result < 2 ^ (check_cells (F.Field.model f.now).m t + 1) }
-    ensures bits { (i : ℕ) → i ≤ check_cells (F.Field.model f.now).m t → bit_of result i ≡ (coefficient (F.Field.model f.now) (check_cells (F.Field.model f.now).m t) i == 1) }
-{
-    packed(coefficients(f, t), check_cells(f, t) as usize + 1)
-}
-
-/// The product of x + alpha^j over the exponents j of the cosets: 1 and its doubles, 3 and its doubles, 5 and its doubles.
-fn coefficients<F: Field>(f: &F, t: u8) -> [u8; 25]
-    requires { Few t }
-    ensures { (i : ℕ) → i < 25 → slice_index result i ≡ coefficient (F.Field.model f.now) (check_cells (F.Field.model f.now).m t) i }
-{
-    let n = row_cells(f) as u16;
-    let mut g = [0u8; 25];
-    g[0] = 1;
-    let square = f.mul(f.alpha(), f.alpha());
-    let mut first = 1u16;
-    let mut here = 1u16;
-    let mut lead = f.alpha();
-    let mut root = lead;
-    for _d in 0..check_cells(f, t) {
-        g = times_factor(f, root, g);
-        here = 2 * here % n;
-        root = f.mul(root, root);
-        if here == first {
-            first += 2;
-            here = first;
-            lead = f.mul(square, lead);
-            root = lead;
-        }
+impl<'a, F: Field> Code<'a, F> {
+    /// The generator, bit i for x^i.
+    pub(crate) fn generator(&self) -> u32
+        ensures below { result < 2 ^ (check_cells (F.Field.model self.now.field.now).m self.now.t + 1) }
+        ensures bits { (i : ℕ) → i ≤ check_cells (F.Field.model self.now.field.now).m self.now.t → bit_of result i ≡ (coefficient (F.Field.model self.now.field.now) (check_cells (F.Field.model self.now.field.now).m self.now.t) i == 1) }
+    {
+        packed(self.coefficients(), usize::from(self.check_cells()) + 1)
     }
-    g
+
+    /// The product of x + alpha^j over the exponents j of the cosets: 1 and its doubles, 3 and its doubles, 5 and its doubles.
+    fn coefficients(&self) -> [u8; 25]
+        ensures { (i : ℕ) → i < 25 → slice_index result i ≡ coefficient (F.Field.model self.now.field.now) (check_cells (F.Field.model self.now.field.now).m self.now.t) i }
+    {
+        let f = self.field;
+        let n = u16::from(row_cells(f));
+        let mut g = [0u8; 25];
+        g[0] = 1;
+        let square = f.mul(f.alpha(), f.alpha());
+        let mut first = 1u16;
+        let mut here = 1u16;
+        let mut lead = f.alpha();
+        let mut root = lead;
+        for _d in 0..self.check_cells() {
+            g = times_factor(f, root, g);
+            here = 2 * here % n;
+            root = f.mul(root, root);
+            if here == first {
+                first += 2;
+                here = first;
+                lead = f.mul(square, lead);
+                root = lead;
+            }
+        }
+        g
+    }
 }
 
 /// The polynomial g times x + a.
@@ -63,9 +65,9 @@ fn times_factor<F: Field>(f: &F, a: u8, g: [u8; 25]) -> [u8; 25]
 {
     let mut product = [0u8; 25];
     let mut below = 0;
-    for i in 0..25usize {
-        product[i] = f.add(below, f.mul(a, g[i]));
-        below = g[i];
+    for (i, here) in g.iter().enumerate() {
+        product[i] = f.add(below, f.mul(a, *here));
+        below = *here;
     }
     product
 }
@@ -78,10 +80,8 @@ fn packed(g: [u8; 25], count: usize) -> u32
     ensures bits { (i : ℕ) → i < count → bit_of result i ≡ (slice_index g i == 1) }
 {
     let mut all = 0u32;
-    let mut i = count;
-    while i > 0 {
-        i -= 1;
-        all = 2 * all + g[i] as u32;
+    for i in (0..count).rev() {
+        all = 2 * all + u32::from(g[i]);
     }
     all
 }

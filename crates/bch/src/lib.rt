@@ -4,6 +4,7 @@
 //! the published systematic row: data * x^(n-k) plus its remainder by the generator polynomial.
 #![tactic(auto)]
 
+mod code;
 pub mod encoder;
 pub mod generator;
 pub mod sizes;

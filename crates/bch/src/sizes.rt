@@ -1,11 +1,12 @@
 //! How many cells a row has, and how many of them are data.
 ghost use Rattle.std.specs.Prelude.{◌≡◌};
 ghost use Rattle.galois.specs.Model.{units};
-ghost use Rattle.galois.specs.Rows.{Few, check_cells};
+ghost use Rattle.galois.specs.Rows.{Few};
 ghost use Rattle.refusal.specs.Checks.{Checked};
 ghost use Rattle.refusal.specs.declared.Refusal.TheVariants.{Figures};
 ghost use Rattle.bch.specs.Calls.{Counted};
 
+use crate::code::Code;
 use field::Field;
 use refusal::Refusal;
 
@@ -13,6 +14,7 @@ use refusal::Refusal;
 pub fn check_strength(t: u8) -> Result<(), Refusal>
     ensures { Checked (Few t) Figures result }
 {
+    // As `check_degree` with another range: one function for both would take the range and the refusal, and be no shorter.
     match t {
         1..=3 => Ok(()),
         _ => Err(Refusal::Figures),
@@ -30,15 +32,5 @@ pub fn row_cells<F: Field>(f: &F) -> u8
 pub fn data_cells<F: Field>(f: &F, t: u8) -> Result<u8, Refusal>
     ensures { Counted (F.Field.model f.now) t result }
 {
-    check_strength(t)?;
-    Ok(row_cells(f) - check_cells(f, t))
-}
-
-/// n - k. The cosets of 1, 3 and 5 have m exponents each, but for that of 5 at m = 4, which has two.
-pub(crate) fn check_cells<F: Field>(f: &F, t: u8) -> u8
-    requires { Few t }
-    ensures { result ≡ check_cells (F.Field.model f.now).m t }
-{
-    let m = f.degree();
-    if m == 4 && t == 3 { 10 } else { m * t }
+    Ok(Code::new(f, t)?.data_cells())
 }

@@ -1,16 +1,21 @@
 -- The syndromes of a row byte by byte, and the turn of the loop that fills their table. The sums of a house field go bit by bit.
-use Rattle.std.proofs.Common.{◌≡◌, ℕ, zero, suc, ◌+◌, ◌*◌, ◌/◌, ◌%◌, ◌^◌, ◌<◌, ◌≤◌, Bool, true, false, cond, eqb, ◌≢◌, List, length, get_or, set, sym, refl, ap, ◌∙◌, ap₂, inl, inr, add-zero, add-suc, one-mul, arith, pow_mono}
+use Rattle.std.proofs.Common.{◌≡◌, ℕ, zero, suc, ◌+◌, ◌*◌, ◌%◌, ◌^◌, ◌<◌, ◌≤◌, Bool, true, false, cond, eqb, ◌≢◌, List, [], length, replicate, get_or, set, sym, refl, ap, ◌∙◌, ap₂, inl, inr, add-zero, add-suc, one-mul, arith, pow_mono, pow_pos}
 use native.Mathlib.Nat.{div-eq_of_lt}
-use lib.Bits.{bit_xor, xor_zero_r, xor_assoc, xor_shifted}
+use lib.Bits.{bit_xor, xor_zero_l, xor_zero_r, xor_assoc, xor_shifted}
 use Rattle.std.proofs.lemmas.List.{get_or-set_same, get_or-set_other}
 use Rattle.std.proofs.lemmas.Bool.{cases_eq}
 use Rattle.bits.specs.Bits.{xor, bit_of, bit_at}
 use Rattle.bits.proofs.Turning.{pow-bit_same, pow-bit_other, bit_of-xor, bit_of-zero}
-use Rattle.galois.specs.House.{house}
-use Rattle.galois.specs.Model.{power}
+use Rattle.galois.specs.House.{Fit, house}
+use Rattle.galois.specs.Model.{power, sum_of, product-of}
 use Rattle.galois.specs.Rows.{power_sum}
-use Rattle.field.specs.Tables.{bit_sums}
-use Rattle.field.proofs.Summed.{bit_of-byte}
+use Rattle.galois.proofs.House.{house-laws}
+use Rattle.galois.proofs.Laws.{power-lt}
+use Rattle.galois.proofs.Powers.{sum_is, cube_is, fifth_is}
+use Rattle.field.specs.declared.syndromes.Syndromes.{Syndromes}
+use Rattle.field.specs.Syndromes.{syndromes_of, with_turn, plus}
+use Rattle.field.specs.Tables.{bit_sums, byte_sums, ByteSums}
+use Rattle.field.proofs.Summed.{three, none, bit_of-byte}
 
 -- ---- a byte with its highest bit set
 module _ (j low : ℕ) (small : low < 2 ^ j) where
@@ -62,44 +67,44 @@ sums_zero m i q zero = refl
 sums_zero m i q (suc k) = ap₂ (λ s b. bit_xor s (cond b (power (house m) (i * (8 * q + k))) 0)) (sums_zero m i q k) (bit_of-zero k)
 
 -- ---- the table
--- the first e entries are filled, the others are zero
-abbrev pub Filled : ℕ → ℕ → List ℕ → ℕ → Type 0
-Filled m i table e =
-    ((k : ℕ) → k < e → get_or table k 0 ≡ bit_sums (house m) i (k / 256) (k % 256) 8) × ((k : ℕ) → e ≤ k → get_or table k 0 ≡ 0)
+-- what turning one position adds
+turn : (m p x : ℕ) → Fit m → x ≡ power (house m) p
+    → with_turn (house m) none x ≡ record { s1 = power (house m) (1 * p); s3 = power (house m) (3 * p); s5 = power (house m) (5 * p) }
+turn m p x fit ex =
+    let F = house m in
+    let l = house-laws m fit in
+    let q = product-of F x x in
+    three (alone 1 x (ex ∙ ap (power F) (sym (one-mul p)))) (alone 3 (product-of F q x) (cube_is F l x q (product-of F q x) p ex refl refl))
+    (alone 5 (product-of F (product-of F q x) q) (fifth_is F l x q (product-of F q x) p ex refl refl _ refl))
+  where
+    alone : (i z : ℕ) → z ≡ power (house m) (i * p) → sum_of (house m) 0 z ≡ power (house m) (i * p)
+    alone i z ez =
+        let F = house m in
+        let l = house-laws m fit in
+        sum_is F l 0 z (sum_of F 0 z) (0, pow_pos m) (power F (i * p), power-lt F l (i * p)) refl ez refl ∙ xor_zero_l (power F (i * p))
 
-entry : (m i q v k : ℕ) → v < 256 → k ≡ 256 * q + v → bit_sums (house m) i (k / 256) (k % 256) 8 ≡ bit_sums (house m) i q v 8
-entry m i q v k lt e =
-    let a : k / 256 ≡ q = omega arith in
-    let b : k % 256 ≡ v = omega arith in
-    ap₂ (λ q v. bit_sums (house m) i q v 8) a b
+-- the first e entries of row q are filled
+abbrev pub Filled : ℕ → ℕ → List Syndromes → ℕ → Type 0
+Filled m q sums e = (v : ℕ) (d : Syndromes) → v < e → get_or sums v d ≡ byte_sums (house m) q v
 
-pub fill_zero_byte : (m i q : ℕ) (table : List ℕ) → Filled m i table (256 * q) → Filled m i table (256 * q + 1)
-fill_zero_byte m i q table f = (
-  (λ k lt. elim (cases_eq k (256 * q)) [
-    | inl e ↦ f.1 k (omega arith) ∙ sym (entry m i q 0 k (omega arith) (omega arith) ∙ sums_zero m i q 8)
-    | inr ne ↦ f.0 k (omega arith)
-  ]),
-  λ k le. f.1 k (omega arith),
-)
+pub fill_zero_byte : (m q : ℕ) → Filled m q (replicate 256 none) 1
+fill_zero_byte m q zero d lt = sym (three (sums_zero m 1 q 8) (sums_zero m 3 q 8) (sums_zero m 5 q 8))
+fill_zero_byte m q (suc v) d lt = absurd (omega arith)
 
-pub fill_byte : (m i q j high low x : ℕ) (table : List ℕ) → q < 32 → j < 8 → high ≡ 2 ^ j → low < high → length table ≡ 8192
-    → x ≡ power (house m) (i * (8 * q + j)) → Filled m i table (256 * q + high + low)
-    → Filled m i (set table (256 * q + high + low) (bit_xor (get_or table (256 * q + low) 0) x)) (256 * q + high + (low + 1))
-fill_byte m i q j high low x table hq hj eh lt len ex f =
-    let at = 256 * q + high + low in
+pub fill_byte : (m q j high low x : ℕ) (new : Syndromes) (sums : List Syndromes) → Fit m → j < 8 → high ≡ 2 ^ j → low < high
+    → length sums ≡ 256 → x ≡ power (house m) (8 * q + j) → new ≡ plus (get_or sums low none) (with_turn (house m) none x)
+    → Filled m q sums (high + low) → Filled m q (set sums (high + low) new) (high + (low + 1))
+fill_byte m q j high low x new sums fit hj eh lt len ex en f v d h =
     let top : 2 ^ j ≤ 2 ^ 7 = pow_mono (let le : j ≤ 7 = omega arith in le) in
-    let small : high + low < 256 = omega arith in
-    let room : at < length table = omega arith in
-    let value : bit_xor (get_or table (256 * q + low) 0) x ≡ bit_sums (house m) i q (high + low) 8 =
-    ap₂ bit_xor (f.0 (256 * q + low) (omega arith) ∙ entry m i q low (256 * q + low) (omega arith) refl) ex
-    ∙ sym (ap (λ h. bit_sums (house m) i q (h + low) 8) eh ∙ with_bit j low (omega arith) m i q hj) in (
-      (λ k h. elim (cases_eq k at) [
-        | inl e ↦ ap (λ z. get_or (set table at (bit_xor (get_or table (256 * q + low) 0) x)) z 0) e ∙ get_or-set_same table at _ 0 room ∙ value
-            ∙ sym (entry m i q (high + low) k small (omega arith))
-        | inr ne ↦ get_or-set_other table at k _ 0 ne ∙ f.0 k (omega arith)
-      ]),
-      λ k h. get_or-set_other table at k _ 0 (let ne : k ≢ at = omega arith in ne) ∙ f.1 k (omega arith),
-    )
+    let room : high + low < length sums = omega arith in
+    elim (cases_eq v (high + low)) [
+      | inl e ↦
+          ap (λ z. get_or (set sums (high + low) new) z d) e ∙ get_or-set_same sums (high + low) _ d room
+          ∙ en ∙ ap₂ plus (f low none (omega arith)) (turn m (8 * q + j) x fit ex)
+          ∙ sym (ap (byte_sums (house m) q) (e ∙ ap (λ h. h + low) eh)
+          ∙ three (with_bit j low (omega arith) m 1 q hj) (with_bit j low (omega arith) m 3 q hj) (with_bit j low (omega arith) m 5 q hj))
+      | inr ne ↦ get_or-set_other sums (high + low) v _ d ne ∙ f v d (omega arith)
+    ]
 
 -- ---- the row
 sums_more : (m i q v : ℕ) (c : ℕ → Bool) → ((b : ℕ) → b < 8 → c (8 * q + b) ≡ bit_of v b) → (k : ℕ) → k ≤ 8
@@ -112,11 +117,12 @@ sums_more m i q v c same (suc k) le =
     ∙ xor_assoc (power_sum (house m) i c (8 * q)) (bit_sums (house m) i q v k) (cond (bit_of v k) (power (house m) (i * (8 * q + k))) 0)
 
 -- one byte more
-pub sum_byte : (m i q s : ℕ) (row table : List ℕ) → ((k : ℕ) → k < 8192 → get_or table k 0 ≡ bit_sums (house m) i (k / 256) (k % 256) 8)
-    → q < 32 → get_or row q 0 < 256 → s ≡ power_sum (house m) i (bit_at 8 row) (8 * q)
-    → bit_xor s (get_or table (256 * q + get_or row q 0) 0) ≡ power_sum (house m) i (bit_at 8 row) (8 * (q + 1))
-sum_byte m i q s row table t hq hv es =
-    let v = get_or row q 0 in
+pub sum_byte : (m q v : ℕ) (s : Syndromes) (row : List ℕ) (table : List (List Syndromes)) → ByteSums m table
+    → q < 32 → v < 256 → v ≡ get_or row q 0 → s ≡ syndromes_of (house m) (bit_at 8 row) (8 * q)
+    → plus s (get_or (get_or table q []) v none) ≡ syndromes_of (house m) (bit_at 8 row) (8 * (q + 1))
+sum_byte m q v s row table t hq hv ev es =
     let up : 8 * q + 8 ≡ 8 * (q + 1) = omega arith in
-    ap₂ bit_xor es (t (256 * q + v) (omega arith) ∙ entry m i q v (256 * q + v) hv refl)
-    ∙ sym (sums_more m i q v (bit_at 8 row) (bit_of-byte row q) 8 (omega arith)) ∙ ap (power_sum (house m) i (bit_at 8 row)) up
+    ap₂ plus es (t q v hq hv none) ∙ three (more 1) (more 3) (more 5) ∙ ap (syndromes_of (house m) (bit_at 8 row)) up
+  where
+    more : (i : ℕ) → bit_xor (power_sum (house m) i (bit_at 8 row) (8 * q)) (bit_sums (house m) i q v 8) ≡ power_sum (house m) i (bit_at 8 row) (8 * q + 8)
+    more i = sym (sums_more m i q v (bit_at 8 row) (λ b h. bit_of-byte row q b h ∙ ap (λ v. bit_of v b) (sym ev)) 8 (omega arith))

@@ -39,24 +39,20 @@ module _ (m : ℕ) (ps es : List ℕ) (fit : Fit m) (t : Tables m ps es) where
           ap (λ k. get_or ps k 0) (sym whole) ∙ t.1 (s - (2 ^ m - 1)) (omega arith)
           ∙ sym ((consequences (house m) (house-laws m fit)).power_comes_round (s - (2 ^ m - 1))) ∙ ap (power (house m)) whole
 
-  module _ (x : ℕ) (hx : x < 2 ^ m) (nx : x ≡ 0 → ⊥) where
-    pub exponent_lt : get_or es x 0 < 2 ^ m - 1
-    exponent_lt = ((exponent-at x hx).at_unit (omega arith)).0
+  pub inverse_at : (x p r : ℕ) → IsExponent (house m) x p → (x ≡ 0 → ⊥) → r ≡ (2 ^ m - 1) - p → IsInverse (house m) x (get_or ps r 0)
+  inverse_at x p r e nx er =
+      let lt = (e.at_unit (omega arith)).0 in
+      subst (IsInverse (house m) x) (sym (ap (λ k. get_or ps k 0) er ∙ power_at ((2 ^ m - 1) - p) (omega arith)))
+      (inverse_of (house m) (house-laws m fit) x p e (omega arith))
 
-    pub inverse_at : IsInverse (house m) x (get_or ps ((2 ^ m - 1) - get_or es x 0) 0)
-    inverse_at =
-        let lt = exponent_lt in
-        subst (IsInverse (house m) x) (sym (power_at ((2 ^ m - 1) - get_or es x 0) (omega arith)))
-        (inverse_of (house m) (house-laws m fit) x (get_or es x 0) (exponent-at x hx) (omega arith))
-
-    pub product_at : (y : ℕ) → y < 2 ^ m → (y ≡ 0 → ⊥) → get_or ps (get_or es x 0 + get_or es y 0) 0 ≡ product m m x y
-    product_at y hy ny =
-        let ex = (exponent-at x hx).at_unit (omega arith) in
-        let ey = (exponent-at y hy).at_unit (omega arith) in
-        let lx = ex.0 in
-        let ly = ey.0 in
-        power_at (get_or es x 0 + get_or es y 0) (omega arith)
-        ∙ power-add (house m) (house-laws m fit) (get_or es x 0) (get_or es y 0) ∙ ap₂ (product m m) ex.1 ey.1
+  pub product_at : (x y p q : ℕ) → IsExponent (house m) x p → IsExponent (house m) y q → (x ≡ 0 → ⊥) → (y ≡ 0 → ⊥)
+      → get_or ps (p + q) 0 ≡ product m m x y
+  product_at x y p q ex ey nx ny =
+      let u = ex.at_unit (omega arith) in
+      let v = ey.at_unit (omega arith) in
+      let lp = u.0 in
+      let lq = v.0 in
+      power_at (p + q) (omega arith) ∙ power-add (house m) (house-laws m fit) p q ∙ ap₂ (product m m) u.1 v.1
 
 -- one more power goes into the tables
 module _ (m p y : ℕ) (fit : Fit m) (lt : p < 2 ^ m - 1) (ey : y ≡ power (house m) p) where

@@ -1,14 +1,11 @@
 -- A mask of m set bits reads a number modulo 2 ^ m.
-use Rattle.std.proofs.Common.{◌≡◌, ℕ, ◌-◌, ◌*◌, ◌/◌, ◌%◌, ◌^◌, ◌<◌, ◌≤◌, sym, ap, ◌∙◌, subst, mod-lt, arith, lit≤, pow_pos}
+use Rattle.std.proofs.Common.{◌≡◌, ℕ, ◌-◌, ◌*◌, ◌/◌, ◌%◌, ◌^◌, ◌≤◌, sym, ap, ◌∙◌, arith, lit≤}
 use lib.Bits.{bit_and, bit_xor, and_mask, xor_mod, xor_zero_r}
 use Rattle.galois.specs.House.{Fit, pick, reducer, shift}
 use Rattle.galois.proofs.HouseRing.{each}
 
 pub byte : (m : ℕ) → Fit m → 2 ^ m ≤ 256
 byte = each (λ k. 2 ^ k ≤ 256) (lit≤ tt) (lit≤ tt) (lit≤ tt) (lit≤ tt) (lit≤ tt)
-
-pub reduced_lt : (m a x : ℕ) → x ≡ a % 2 ^ m → x < 2 ^ m
-reduced_lt m a x e = subst (λ z. z < 2 ^ m) (sym e) (mod-lt a (pow_pos m))
 
 module _ (m n : ℕ) (mask : n ≡ 2 ^ m - 1) where
   pub masked : (a : ℕ) → bit_and a n ≡ a % 2 ^ m

@@ -9,10 +9,13 @@ use Rattle.galois.proofs.Powers.{sum_is, cube_is, fifth_is}
 use Rattle.field.specs.declared.syndromes.Syndromes.{Syndromes}
 use Rattle.field.specs.Syndromes.{syndromes_of, with_turn}
 
-three : {a b c x y z : ℕ} → a ≡ x → b ≡ y → c ≡ z → ◌≡◌ {A = Syndromes} (record { s1 = a; s3 = b; s5 = c }) (record { s1 = x; s3 = y; s5 = z })
+pub three : {a b c x y z : ℕ} → a ≡ x → b ≡ y → c ≡ z → ◌≡◌ {A = Syndromes} (record { s1 = a; s3 = b; s5 = c }) (record { s1 = x; s3 = y; s5 = z })
 three p q r = cc
 
-pub sums_none : (F : FieldModel) (c : ℕ → Bool) → ◌≡◌ {A = Syndromes} (record { s1 = 0; s3 = 0; s5 = 0 }) (syndromes_of F c 0)
+abbrev pub none : Syndromes
+none = record { s1 = 0; s3 = 0; s5 = 0 }
+
+pub sums_none : (F : FieldModel) (c : ℕ → Bool) → none ≡ syndromes_of F c 0
 unfolding power_sum
 sums_none F c = refl
 

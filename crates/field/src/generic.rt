@@ -16,9 +16,5 @@ pub fn cube<F: Field>(f: &F, x: u8) -> u8
 pub fn sum<F: Field>(f: &F, xs: &[u8]) -> u8
     ensures { result ≡ total (F.Field.model f.now) xs.now }
 {
-    let mut all = 0;
-    for x in xs {
-        all = f.add(all, *x);
-    }
-    all
+    xs.iter().fold(0, |all, x| f.add(all, *x))
 }

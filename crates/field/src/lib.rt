@@ -70,11 +70,7 @@ pub trait Field {
         ensures { result ≡ syndromes_of (model self.now) (bit_at 8 row.now) (8 * length row.now) }
     {
         let alpha = self.alpha();
-        let mut sums = Syndromes {
-            s1: 0,
-            s3: 0,
-            s5: 0,
-        };
+        let mut sums = Syndromes::NONE;
         let mut x = 1;
         for byte in row {
             for i in 0..8u8 {

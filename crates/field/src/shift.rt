@@ -4,7 +4,7 @@ ghost use Rattle.galois.specs.Model.{power};
 ghost use Rattle.galois.specs.House.{Fit, Taken, house, reducer, shift};
 ghost use Rattle.galois.proofs.House.{house-laws};
 
-use crate::Field;
+use crate::{Field, check_degree};
 
 /// The polynomials over 0 and 1 of degree below m, bit i of a number for x^i, modulo the reducing polynomial of degree m.
 #[derive(Clone, Copy)]
@@ -18,9 +18,9 @@ impl ShiftField {
     pub fn new(m: u8) -> Self
         ensures { Taken m result.m }
     {
-        match m {
-            4..=8 => ShiftField { m },
-            _ => ShiftField { m: 4 },
+        match check_degree(m) {
+            Ok(()) => ShiftField { m },
+            Err(_) => ShiftField { m: 4 },
         }
     }
 
@@ -54,13 +54,13 @@ impl ShiftField {
     pub fn times_alpha(&self, a: u8) -> u8
         ensures { result ≡ shift self.now.m a }
     {
-        let doubled = a as u16 * 2;
+        let doubled = u16::from(a) * 2;
         let reduced = if (a >> (self.m - 1)) % 2 == 1 {
             doubled ^ self.reducing_polynomial()
         } else {
             doubled
         };
-        (reduced & self.units() as u16) as u8
+        (reduced & u16::from(self.units())) as u8
     }
 
     /// alpha^p.
@@ -116,12 +116,13 @@ impl Field for ShiftField {
     fn exponent(&self, a: u8) -> u8 {
         let n = self.units();
         let x = self.element(a);
-        let mut p = 0;
         let mut y = 1;
-        while p < n && y != x {
+        for p in 0..n {
+            if y == x {
+                return p;
+            }
             y = self.times_alpha(y);
-            p += 1;
         }
-        p
+        n
     }
 }

@@ -15,12 +15,10 @@ pub struct TableField {
     /// alpha^p for p below 2n, so that a sum of two exponents needs no reduction.
     powers: [u8; 512],
     exponents: [u8; 256],
-    /// What each byte at each index of a row adds to S_1, S_3 and S_5.
-    first_sums: [u8; 8192],
-    third_sums: [u8; 8192],
-    fifth_sums: [u8; 8192],
+    /// What each byte at each index of a row adds to the syndromes.
+    sums: [[Syndromes; 256]; 32],
     ghost tied: { Tables base.m powers exponents },
-    ghost summed: { ByteSums base.m 1 first_sums × ByteSums base.m 3 third_sums × ByteSums base.m 5 fifth_sums },
+    ghost summed: { ByteSums base.m sums },
 }
 
 impl TableField {
@@ -35,21 +33,17 @@ impl TableField {
         exponents[0] = n;
         let mut y = 1;
         for p in 0..n {
-            powers[p as usize] = y;
-            powers[p as usize + n as usize] = y;
-            exponents[y as usize] = p;
+            powers[usize::from(p)] = y;
+            powers[usize::from(p) + usize::from(n)] = y;
+            exponents[usize::from(y)] = p;
             y = base.times_alpha(y);
         }
-        let first_sums = byte_sums(&base, 1);
-        let third_sums = byte_sums(&base, 3);
-        let fifth_sums = byte_sums(&base, 5);
+        let sums = byte_sums(&base);
         TableField {
             base,
             powers,
             exponents,
-            first_sums,
-            third_sums,
-            fifth_sums,
+            sums,
         }
     }
 }
@@ -72,39 +66,31 @@ impl Field for TableField {
     }
 
     fn mul(&self, a: u8, b: u8) -> u8 {
-        let x = self.base.element(a);
-        let y = self.base.element(b);
-        if x == 0 || y == 0 {
+        if self.base.element(a) == 0 || self.base.element(b) == 0 {
             return 0;
         }
-        self.powers[self.exponents[x as usize] as usize + self.exponents[y as usize] as usize]
+        self.powers[usize::from(self.exponent(a)) + usize::from(self.exponent(b))]
     }
 
     fn inverse(&self, a: u8) -> u8 {
-        let x = self.base.element(a);
-        if x == 0 {
+        if self.base.element(a) == 0 {
             return 0;
         }
-        self.powers[self.base.units() as usize - self.exponents[x as usize] as usize]
+        self.powers[usize::from(self.base.units() - self.exponent(a))]
     }
 
     fn exponent(&self, a: u8) -> u8 {
-        self.exponents[self.base.element(a) as usize]
+        self.exponents[usize::from(self.base.element(a))]
     }
 
     fn syndromes(&self, row: &[u8]) -> Syndromes {
         if row.len() > 32 {
             return self.base.syndromes(row);
         }
-        let mut s1 = 0;
-        let mut s3 = 0;
-        let mut s5 = 0;
+        let mut sums = Syndromes::NONE;
         for (q, byte) in row.iter().enumerate() {
-            let at = 256 * q + *byte as usize;
-            s1 ^= self.first_sums[at];
-            s3 ^= self.third_sums[at];
-            s5 ^= self.fifth_sums[at];
+            sums = sums.plus(self.sums[q][usize::from(*byte)]);
         }
-        Syndromes { s1, s3, s5 }
+        sums
     }
 }

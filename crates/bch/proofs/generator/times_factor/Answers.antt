@@ -1,12 +1,8 @@
-use Rattle.std.proofs.Common.{get_or, sym, refl, ap, add-one, arith, length-set, pow_pos}
+use Rattle.std.proofs.Common.{get_or, sym, ap, add-one, length-set}
 use Rattle.galois.specs.Ring.{numbers}
 use Rattle.galois.specs.Polynomials.{before}
 use Rattle.bch.proofs.Factors.{factor-next}
 use Rattle.bch.proofs.generator.times_factor.Goals as goal
-
-pub loop-i-init : goal.loop-i-init
-loop-i-init g c =
-    let F = g.F.Field.model c.args.f.now in (refl, refl, pow_pos F.m, λ k h. absurd (omega arith))
 
 pub loop-i-preserved : goal.loop-i-preserved
 loop-i-preserved g c =
@@ -20,6 +16,3 @@ loop-i-preserved g c =
       factor-next F laws c.args.a c.args.g l.product l.i l.below c.add.result c.mul.result c.loop-i-test.true c.requires.elements c.requires.element
           i.0 i.1 i.2 c.mul.ensures c.add.ensures i.3,
     )
-
-pub returns : goal.returns
-returns g c = λ i h. c.loop-i.invariant.3 i (let k = c.loop-i-test.false in omega arith)

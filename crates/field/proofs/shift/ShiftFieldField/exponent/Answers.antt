@@ -6,27 +6,24 @@ use Rattle.field.proofs.shift.ShiftFieldField.exponent.Goals as goal
 
 pub loop-p-init : goal.loop-p-init
 unfolding power
-loop-p-init c = (omega arith, refl, λ q h _. omega arith)
+loop-p-init c = (refl, λ q h _. omega arith)
 
 pub loop-p-preserved : goal.loop-p-preserved
 loop-p-preserved c =
     let m = c.args.self.now.m in
     let l = c.loop-p in (
-      omega arith,
-      c.times_alpha-y.ensures ∙ ap (shift m) l.invariant.1 ∙ power-next m l.p c.args.self.now.fit,
-      below_more _ l.p l.invariant.2 (λ e. c.if-y-x.true (l.invariant.1 ∙ e)),
+      c.times_alpha-y.ensures ∙ ap (shift m) l.invariant.0 ∙ power-next m l.p c.args.self.now.fit,
+      below_more _ l.p l.invariant.1 (λ e. c.if-y-x.false (l.invariant.0 ∙ e)),
     )
 
-pub returns-else-y-x : goal.returns-else-y-x
-returns-else-y-x c =
-    let m = c.args.self.now.m in
+pub returns-then-y-x : goal.returns-then-y-x
+returns-then-y-x c =
     let l = c.loop-p in
-    found m _ l.p c.args.self.now.fit (omega arith)
-    (sym l.invariant.1 ∙ c.if-y-x.false ∙ c.element-x.ensures)
+    found c.args.self.now.m _ l.p c.args.self.now.fit (omega arith) (sym l.invariant.0 ∙ c.if-y-x.true ∙ c.element-x.ensures)
 
-pub returns-after-loop-p : goal.returns-after-loop-p
-returns-after-loop-p c =
+pub returns : goal.returns
+returns c =
     let m = c.args.self.now.m in
     let l = c.loop-p in
-    not_found m _ l.p c.args.self.now.fit (mod-lt c.args.a (pow_pos m)) (omega arith)
-    (λ q h e. l.invariant.2 q h (e ∙ sym c.element-x.ensures))
+    not_found m _ c.units-n.result c.args.self.now.fit (mod-lt c.args.a (pow_pos m)) c.units-n.ensures
+    (λ q h e. l.invariant.1 q (omega arith) (e ∙ sym c.element-x.ensures))

@@ -2,7 +2,7 @@ use Rattle.std.proofs.Common.{◌≡◌, ℕ, ◌<◌, get_or}
 use Rattle.galois.specs.Model.{units, power}
 use Rattle.galois.specs.Cosets.{walk}
 use Rattle.bch.specs.Steps.{coefficient}
-use Rattle.bch.proofs.generator.coefficients.Given as goal
+use Rattle.bch.proofs.code.Code.coefficients.Given as goal
 
 abbrev pub invariant-loop-d : goal.invariant-loop-d
 invariant-loop-d g l =

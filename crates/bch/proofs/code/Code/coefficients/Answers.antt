@@ -4,21 +4,21 @@ use Rattle.galois.proofs.Laws.{power-lt}
 use Rattle.galois.specs.Cosets.{walk}
 use Rattle.bch.proofs.Factors.{no-factors, more-factors, here_byte, first-lt, coefficient-lt, walk-wraps, walk-goes, power-once, power-twice, power-two-more}
 use Rattle.bch.proofs.Counts.{units-pos}
-use Rattle.bch.proofs.generator.coefficients.Goals as goal
-use Rattle.bch.proofs.generator.coefficients.Goals.{then-here-first, else-here-first}
+use Rattle.bch.proofs.code.Code.coefficients.Goals as goal
+use Rattle.bch.proofs.code.Code.coefficients.Goals.{then-here-first, else-here-first}
 
 pub loop-d-init : goal.loop-d-init
 unfolding walk
 loop-d-init g c =
-    let F = g.F.Field.model c.args.f.now in
-    let laws = g.F.Field.lawful c.args.f.now in
+    let F = g.F.Field.model c.args.self.now.field.now in
+    let laws = g.F.Field.lawful c.args.self.now.field.now in
     let one = power-once F laws c.alpha-lead.result c.alpha-lead.ensures in
     (refl, refl, one, one, no-factors F laws)
 
 pub times_factor-g-requires : goal.times_factor-g-requires
 times_factor-g-requires g c =
-    let F = g.F.Field.model c.args.f.now in
-    let laws = g.F.Field.lawful c.args.f.now in
+    let F = g.F.Field.model c.args.self.now.field.now in
+    let laws = g.F.Field.lawful c.args.self.now.field.now in
     record {
       elements = λ i h. subst (λ z. z < size F) (sym (c.loop-d.invariant.4 i h)) (coefficient-lt F laws c.loop-d._d i);
       element = subst (λ z. z < size F) (sym c.loop-d.invariant.3) (power-lt F laws c.loop-d.here);
@@ -26,33 +26,33 @@ times_factor-g-requires g c =
 
 pub overflow_mul-here : goal.overflow_mul-here
 overflow_mul-here g c =
-    let F = g.F.Field.model c.args.f.now in
-    let laws = g.F.Field.lawful c.args.f.now in
+    let F = g.F.Field.model c.args.self.now.field.now in
+    let laws = g.F.Field.lawful c.args.self.now.field.now in
     let l = c.loop-d in
-    let h = here_byte F laws c.args.t l._d c.check_cells-d-end.result l.here c.requires c.check_cells-d-end.ensures c.loop-d-test.true l.invariant.1 in
+    let h = here_byte F laws c.args.self.now.t l._d c.check_cells-d-end.result l.here c.args.self.now.few c.check_cells-d-end.ensures.value c.loop-d-test.true l.invariant.1 in
     search rules
 
 pub nonzero_rem-here : goal.nonzero_rem-here
 nonzero_rem-here g c =
-    subst (λ z. 0 < z) (sym c.row_cells-n.ensures) (units-pos (g.F.Field.model c.args.f.now) (g.F.Field.lawful c.args.f.now))
+    subst (λ z. 0 < z) (sym (c.from-n.ensures ∙ c.row_cells.ensures)) (units-pos (g.F.Field.model c.args.self.now.field.now) (g.F.Field.lawful c.args.self.now.field.now))
 
 pub overflow_add-first : goal.overflow_add-first
 overflow_add-first g c =
-    let F = g.F.Field.model c.args.f.now in
-    let laws = g.F.Field.lawful c.args.f.now in
+    let F = g.F.Field.model c.args.self.now.field.now in
+    let laws = g.F.Field.lawful c.args.self.now.field.now in
     let l = c.loop-d in
-    let h = first-lt F laws c.args.t l._d c.check_cells-d-end.result l.first c.requires c.check_cells-d-end.ensures c.loop-d-test.true l.invariant.0 in
+    let h = first-lt F laws c.args.self.now.t l._d c.check_cells-d-end.result l.first c.args.self.now.few c.check_cells-d-end.ensures.value c.loop-d-test.true l.invariant.0 in
     search rules
 
 pub loop-d-preserved : goal.loop-d-preserved
 loop-d-preserved g c =
-    let F = g.F.Field.model c.args.f.now in
-    let laws = g.F.Field.lawful c.args.f.now in
+    let F = g.F.Field.model c.args.self.now.field.now in
+    let laws = g.F.Field.lawful c.args.self.now.field.now in
     let l = c.loop-d in
     let j = c.if-here-first in
     let n = units F in
     let i = l.invariant in
-    let twice : (2 * l.here) % c.row_cells-n.result ≡ (2 * (walk n l._d).here) % n = ap₂ (λ h k. (2 * h) % k) i.1 c.row_cells-n.ensures in
+    let twice : (2 * l.here) % c.from-n.result ≡ (2 * (walk n l._d).here) % n = ap₂ (λ h k. (2 * h) % k) i.1 (c.from-n.ensures ∙ c.row_cells.ensures) in
     let squared = c.mul-square.ensures ∙ ap₂ (product-of F) c.alpha.ensures c.alpha-2.ensures in
     let all : (j.first ≡ (walk n (l._d + 1)).first) × (j.here ≡ (walk n (l._d + 1)).here) × (j.lead ≡ power F j.first) × (j.root ≡ power F j.here) =
     elim c.if-here-first.branch [
@@ -66,7 +66,7 @@ loop-d-preserved g c =
           )
       | else-here-first w ↦
           let e = walk-goes n l._d (λ q. w.if-here-first.false (twice ∙ q ∙ sym i.0)) in
-          let p = power-twice F laws l.here l.root c.mul-root.result c.row_cells-n.result c.row_cells-n.ensures i.3 c.mul-root.ensures in (
+          let p = power-twice F laws l.here l.root c.mul-root.result c.from-n.result (c.from-n.ensures ∙ c.row_cells.ensures) i.3 c.mul-root.ensures in (
             w.first-is ∙ i.0 ∙ e.0,
             w.here-is ∙ twice ∙ e.1,
             w.lead-is ∙ i.2 ∙ ap (power F) (sym w.first-is),
