@@ -1,12 +1,12 @@
 -- Lemmas: the window and the interleaver show cells below, no two of them the same. Nothing here has to be believed.
-use Rattle.std.specs.Prelude.{◌≡◌, ℕ, ◌+◌, ◌*◌, ◌/◌, ◌%◌, ◌<◌, ◌≤◌, true}
-use Rattle.std.proofs.Common.{sym, ap, ◌∙◌, mul_comm, mul_assoc, arith}
+use Rattle.std.specs.Prelude.{◌≡◌, ℕ, zero, suc, ◌+◌, ◌-◌, ◌*◌, ◌/◌, ◌%◌, ◌<◌, ◌≤◌, true}
+use Rattle.std.proofs.Common.{sym, ap, zero, suc, ◌∙◌, mul_comm, mul_assoc, arith}
 use Rattle.std.proofs.Math.Arith.{digits_lt, digits_div, digits_mod}
 use Rattle.std.proofs.lemmas.Nat.{div-add-mod', div_below, mod_below}
-use Rattle.std.proofs.lemmas.Bool.{cond_both, leb-true, eqb-true, and_parts}
+use Rattle.std.proofs.lemmas.Bool.{cond_both}
 use Rattle.std.proofs.lemmas.Bool.Decides.{nat_tests}
 use Rattle.memory.specs.Layered.{Picks}
-use Rattle.layers.specs.Layers.{window_size, interleaver_test, interleaver_size, crossed}
+use Rattle.layers.specs.Layers.{window_size, InterleaverFits, interleaver_test, interleaver_size, crossed}
 
 pub window_picks : (c l n : ℕ) → Picks (window_size c l) (λ n k. c + k) n
 window_picks c l n = record {
@@ -15,35 +15,25 @@ window_picks c l n = record {
   once = λ i j hi hj e. omega arith;
 }
 
--- what the test of the interleaver's figures says
-pub record Figures (d w n : ℕ) : Type 0 where
-  pub deep : 0 < d
-  pub shallow : d ≤ 16
-  pub wide : 0 < w
-  pub narrow : w ≤ 255
-  pub some : 0 < n
-  pub whole : n % (d * w) ≡ 0
+some_groups : (q x n : ℕ) → n ≡ q * x → 0 < n → 1 ≤ q
+some_groups zero x n e h = absurd (omega arith)
+some_groups (suc q) x n e h = omega arith
 
-pub figures : (d w n : ℕ) → interleaver_test d w n ≡ true → Figures d w n
-figures d w n e =
-    let a = and_parts _ _ e in
-    let b = and_parts _ _ a.0 in
-    let c = and_parts _ _ b.0 in
-    let f = and_parts _ _ c.0 in
-    let g = and_parts _ _ f.0 in
-    record {
-      deep = leb-true _ _ g.0;
-      shallow = leb-true _ _ g.1;
-      wide = leb-true _ _ f.1;
-      narrow = leb-true _ _ c.1;
-      some = leb-true _ _ b.1;
-      whole = eqb-true _ _ a.1;
-    }
+-- what leaves no rest is one or more whole groups of x
+pub in_groups : (x n : ℕ) → 1 ≤ n → n % x ≡ 0 → (q : ℕ) × (1 ≤ q) × (n ≡ q * x)
+in_groups x n h e =
+    let whole : n ≡ n / x * x = omega (arith, div-add-mod' n x) in
+    (n / x, some_groups (n / x) x n whole h, whole)
+
+pub interleaver_fits : (d w n : ℕ) → interleaver_test d w n ≡ true → InterleaverFits d w n
+interleaver_fits d w n e =
+    let f : (1 ≤ d) × (d ≤ 16) × (1 ≤ w) × (w ≤ 255) × (1 ≤ n) × (n % (d * w) ≡ 0) = grind (arith, nat_tests) in
+    (f.0, f.1, f.2, f.3, in_groups (d * w) n f.4 f.5)
 
 -- a cell of the interleaver shows that the figures fit
-pub inside : (d w n k : ℕ) → k < interleaver_size d w n → (k < n) × Figures d w n
+pub inside : (d w n k : ℕ) → k < interleaver_size d w n → (k < n) × InterleaverFits d w n
 inside d w n k =
-    cond_both (interleaver_test d w n) n 0 (λ s. k < s → (k < n) × Figures d w n) (λ e h. (h, figures d w n e)) (λ e h. absurd (omega arith))
+    cond_both (interleaver_test d w n) n 0 (λ s. k < s → (k < n) × InterleaverFits d w n) (λ e h. (h, interleaver_fits d w n e)) (λ e h. absurd (omega arith))
 
 module _ (d w : ℕ) (dp : 0 < d) (wp : 0 < w) where
   -- crossing w rows of d takes a cell back
@@ -58,20 +48,26 @@ module _ (d w : ℕ) (dp : 0 < d) (wp : 0 < w) where
   crossed-once : (i j : ℕ) → crossed d w i ≡ crossed d w j → i ≡ j
   crossed-once i j e = sym (crossed-back i) ∙ ap (crossed w d) e ∙ crossed-back j
 
-  crossed-below : (n k : ℕ) → n % (d * w) ≡ 0 → k < n → crossed d w k < n
-  crossed-below n k z h =
-      let q : ℕ = n / (d * w) in
-      let whole : q * (d * w) ≡ n = omega (arith, div-add-mod' n (d * w)) in
-      let e1 : n ≡ q * d * w = sym whole ∙ sym (mul_assoc q d w) in
-      let e2 : q * w * d ≡ n = mul_assoc q w d ∙ ap (λ x. q * x) (mul_comm w d) ∙ whole in
+  -- the column that cell k is laid down in ends among the n cells,
+  column_below : (n q k : ℕ) → n ≡ q * (d * w) → k < n → (k / w / d * w + k % w) * d + d ≤ n
+  column_below n q k e h =
+      let e1 : n ≡ q * d * w = e ∙ sym (mul_assoc q d w) in
+      let e2 : q * w * d ≡ n = mul_assoc q w d ∙ ap (λ x. q * x) (mul_comm w d) ∙ sym e in
       let g : k / w / d < q = div_below (k / w) d q dp (div_below k w (q * d) wp (omega arith)) in
       let r : k / w / d * w + k % w < q * w = digits_lt g (mod_below k w wp) in
-      let t : crossed d w k < q * w * d = digits_lt r (mod_below (k / w) d dp) in
+      let t : (k / w / d * w + k % w) * d + (d - 1) < q * w * d = digits_lt r (omega arith) in
       omega arith
+
+  -- and so does the cell
+  crossed-below : (n q k : ℕ) → n ≡ q * (d * w) → k < n → crossed d w k < n
+  crossed-below n q k e h = omega (arith, column_below n q k e h, mod_below (k / w) d dp)
+
+pub column_fits : (d w n k : ℕ) → k < interleaver_size d w n → (k / w / d * w + k % w) * d + d ≤ n
+column_fits d w n k h = let s = inside d w n k h in let f = s.1 in column_below d w f.0 f.2 n f.4.0 k f.4.2 s.0
 
 pub interleaver_picks : (d w n : ℕ) → Picks (interleaver_size d w) (λ n k. crossed d w k) n
 interleaver_picks d w n = record {
-  few = cond_both (interleaver_test d w n) n 0 (λ s. s ≤ n) (λ e. omega arith) (λ e. omega arith);
-  into = λ k h. let s = inside d w n k h in crossed-below d w s.1.deep s.1.wide n k s.1.whole s.0;
-  once = λ i j hi hj e. let f = (inside d w n i hi).1 in crossed-once d w f.deep f.wide i j e;
+  few = grind (arith, nat_tests);
+  into = λ k h. let s = inside d w n k h in let f = s.1 in crossed-below d w f.0 f.2 n f.4.0 k f.4.2 s.0;
+  once = λ i j hi hj e. let f = (inside d w n i hi).1 in crossed-once d w f.0 f.2 i j e;
 }

@@ -40,6 +40,7 @@ impl Selection for Columns {
         if self.fits(n) { n } else { 0 }
     }
 
+    #[tactic(auto, using(crate::specs::Crossing::column_fits))]
     fn cell(&self, n: u32, k: u32) -> Option<u32> {
         if k >= self.shown(n) {
             return None;
@@ -63,6 +64,7 @@ impl<M: Memory> Interleaver<M> {
     }
 
     /// The interleaver over `below`; of no cells where the figures do not fit.
+    #[tactic(auto, using(crate::proofs::Laws::interleaver_laws))]
     pub fn new(below: M, depth: u32, width: u32) -> Interleaver<M>
         ensures holds { (result.below ≡ below) × ((result.figures.depth ≡ depth) × (result.figures.width ≡ width)) }
         ensures means { ⟦<Selected<M, Columns> as Memory>⟧.means result ≡ interleaved depth width (M.Memory.means below) }

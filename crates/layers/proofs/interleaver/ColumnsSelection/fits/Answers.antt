@@ -1,6 +1,7 @@
 use Rattle.std.proofs.Common.{◌*◌, ◌≤◌, arith}
 use Rattle.std.proofs.lemmas.Grind.{common_steps}
-use Rattle.layers.proofs.Figures.{in_groups, no_rest}
+use Rattle.layers.specs.Crossing.{in_groups}
+use Rattle.layers.proofs.Figures.{no_rest}
 use Rattle.layers.proofs.interleaver.ColumnsSelection.fits.Goals as goal
 
 pub returns-then-n-ge1 : goal.returns-then-n-ge1
