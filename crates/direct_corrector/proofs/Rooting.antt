@@ -52,25 +52,21 @@ module _ (F : FieldModel) (l : FieldLaws F) (t : ℕ) (few : Few t) (start : Lis
           ev ∙ ap₂ (λ y z. value_at F y lower.second lower.third z) (ap (λ (v : Syndromes). v.s1) es) ex
           ∙ cubic-is F l sums.s1 lower.second lower.third (power F p) _ _ _ _ _ elements.0 found.0 found.1 (power-lt F l p) refl refl refl refl refl
 
-      pub known_turn : (count' : ℕ) (left' : Syndromes) → v ≡ 0 → Turns (bit_at 8 row) (bit_at 8 after) p → count' ≡ count + 1 → left' ≡ with_turn F left x
-          → Known F t start after (p + 1) count' left'
-      known_turn count' left' z turn en el = record {
-        track = subst (λ n. Track F t (bit_at 8 start) (bit_at 8 after) (p + 1) n) (sym en)
-            (root_turn F l t few (bit_at 8 start) (not_clean F t few (bit_at 8 start) s es errors) lower.second lower.third found.0 found.1
-            found.2 (bit_at 8 row) p count v K.track lt value (bit_at 8 after) turn z);
-        sums = el ∙ sums-turned F l (bit_at 8 row) (bit_at 8 after) p x left turn lt ex K.sums;
+      pub known_turn : v ≡ 0 → Turns (bit_at 8 row) (bit_at 8 after) p → Known F t start after (p + 1) (count + 1) (with_turn F left x)
+      known_turn z turn = record {
+        track =
+            root_turn F l t few (bit_at 8 start) (not_clean F t few (bit_at 8 start) s es errors) lower.second lower.third found.0 found.1
+            found.2 (bit_at 8 row) p count v K.track lt value (bit_at 8 after) turn z;
+        sums = sums-turned F l (bit_at 8 row) (bit_at 8 after) p x left turn lt ex K.sums;
       }
 
-      pub known_leave : (count' : ℕ) (left' : Syndromes) → v ≢ 0 → after ≡ row → count' ≡ count → left' ≡ left
-          → Known F t start after (p + 1) count' left'
-      known_leave count' left' nz er en el =
-          subst (λ r. Known F t start r (p + 1) count' left') (sym er)
-          (record {
-            track = subst (λ n. Track F t (bit_at 8 start) (bit_at 8 row) (p + 1) n) (sym en)
-                (root_leave F l t few (bit_at 8 start) (not_clean F t few (bit_at 8 start) s es errors) lower.second lower.third found.0 found.1
-                found.2 (bit_at 8 row) p count v K.track lt value nz);
-            sums = el ∙ K.sums;
-          })
+      pub known_leave : v ≢ 0 → Known F t start row (p + 1) count left
+      known_leave nz = record {
+        track =
+            root_leave F l t few (bit_at 8 start) (not_clean F t few (bit_at 8 start) s es errors) lower.second lower.third found.0 found.1
+            found.2 (bit_at 8 row) p count v K.track lt value nz;
+        sums = K.sums;
+      }
 
   module _ (row : List ℕ) (p count : ℕ) (left : Syndromes) (K : Known F t start row p count left) (end : p ≡ units F) where
     known_found : count ≤ t → clean t left ≡ true → Searched F t start row (Some count)

@@ -44,30 +44,20 @@ module _ (F : FieldModel) (l : FieldLaws F) (t : ℕ) (few : Few t) where
 
   module _ (start row after : List ℕ) (p x count : ℕ) (now : Standing) (K : Known F t start row p count now) (lt : p < units F)
       (room : p < 8 * length row) (ex : x ≡ power F p) where
-    -- the same under the names that the loop gives it
-    named : (count' other : ℕ) (now' stands : Standing) → count' ≡ other → now' ≡ stands → Known F t start after (p + 1) other stands
-        → Known F t start after (p + 1) count' now'
-    named count' other now' stands ec en K' =
-        subst (λ s. Known F t start after (p + 1) count' s) (sym en) (subst (λ n. Known F t start after (p + 1) n stands) (sym ec) K')
-
-    pub known_turn : (kept now' : Standing) (count' : ℕ) → count' ≡ count + 1 → now' ≡ kept → Tried F t row after p x now (Some kept)
-        → Known F t start after (p + 1) count' now'
-    known_turn kept now' count' en es' ((es, ec, fall), turned) =
+    pub known_turn : (kept : Standing) → Tried F t row after p x now (Some kept) → Known F t start after (p + 1) (count + 1) kept
+    known_turn kept ((es, ec, fall), turned) =
         let turn = bits_turn row after p (turned room) in
         let e = es ∙ sums-turned F l (bit_at 8 row) (bit_at 8 after) p x now.sums turn lt ex K.sums in
         let all : Elements F kept.sums = subst (Elements F) (sym e) (elements (bit_at 8 after)) in
-        let f = falls-true now.class kept.class (ap (falls now.class) (ec all) ∙ fall all) in
-        named count' (count + 1) now' kept en es'
-        (record {
+        let f = falls-true now.class kept.class (ap (falls now.class) (ec all) ∙ fall all) in record {
           sums = e;
           steps =
               steps_turn F l t few (bit_at 8 start) (bit_at 8 row) (bit_at 8 after) p count (number now.class) (number kept.class) K.steps lt
               turn (classed_at _ kept.sums kept.class e (λ few h. ap number (ec h) ∙ class_counts F l t kept.sums few)) f.0 f.1;
-        })
+        }
 
-    pub known_leave : (now' : Standing) (count' : ℕ) → count' ≡ count → now' ≡ now → Tried F t row after p x now None
-        → Known F t start after (p + 1) count' now'
-    known_leave now' count' en es' (stays, same) =
+    pub known_leave : Tried F t row after p x now None → Known F t start after (p + 1) count now
+    known_leave (stays, same) =
         let c = bit_at 8 row in
         let y = bit_at 8 (turned_at 8 row p) in
         let out = with_turn F now.sums x in
@@ -75,16 +65,14 @@ module _ (F : FieldModel) (l : FieldLaws F) (t : ℕ) (few : Few t) where
         let e = sums-turned F l c y p x now.sums turn lt ex K.sums in
         let k = class_for F t out in
         let all : Elements F out = subst (Elements F) (sym e) (elements y) in
-        let was : c ≡ bit_at 8 after = fun_ext (λ i. sym (same room i)) in
-        named count' count now' now en es'
-        (record {
+        let was : c ≡ bit_at 8 after = fun_ext (λ i. sym (same room i)) in record {
           sums = K.sums ∙ ap (λ d. syndromes_of F d (units F)) was;
           steps =
               subst (λ d. Steps F t (bit_at 8 start) d (p + 1) count (number now.class)) was
               (steps_leave F l t few (bit_at 8 start) c y p count (number now.class) (number k) K.steps lt turn
               (classed_at y out k e (λ few _. class_counts F l t out few))
               (λ e u. both_ways (falls now.class k) (stays all) (falls-from now.class k e u)));
-        })
+        }
 
   module _ (start row : List ℕ) (p count : ℕ) (now : Standing) (K : Known F t start row p count now) (le : p ≤ units F) where
     pub known_found : now.class ≡ Clean → Searched F t start row (Some count)

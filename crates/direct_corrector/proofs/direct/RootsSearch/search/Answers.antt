@@ -1,4 +1,4 @@
-use Rattle.std.proofs.Common.{◌≡◌, ◌<◌, false, refl, sym, ◌∙◌, rules, arith}
+use Rattle.std.proofs.Common.{◌≡◌, ◌<◌, false, refl, sym, rules, arith}
 use Rattle.galois.specs.Model.{units, power}
 use Rattle.galois.proofs.Powers.{next_power}
 use Rattle.corrector.proofs.Turned.{turn_turns}
@@ -30,21 +30,20 @@ loop-p-preserved g c =
         x,
         omega (arith, w.count-is),
         λ few es.
-            known_turn F laws c.args.t few c.args.row.now c.args.sums es (sym c.if-is_clean.ensures) c.locator_of-lower.result
+            rw (w.count-is, w.left-is, w.turned-left.ensures)
+            (known_turn F laws c.args.t few c.args.row.now c.args.sums es (sym c.if-is_clean.ensures) c.locator_of-lower.result
             c.locator_of-lower.ensures c.loop-p.row c.if-value_at-eq0.row c.loop-p.p c.loop-p.x c.loop-p.count c.value_at.result
-            c.loop-p.left (c.loop-p.invariant.2 few es) lt c.loop-p.invariant.0 c.value_at.ensures c.if-value_at-eq0.count c.if-value_at-eq0.left
-            w.if-value_at-eq0.true
-            (turn_turns c.loop-p.row c.if-value_at-eq0.row c.loop-p.p w.from.result w.turn_bit.result (search rules) (search rules) (search rules))
-            w.count-is (w.left-is ∙ w.turned-left.ensures),
+            c.loop-p.left (c.loop-p.invariant.2 few es) lt c.loop-p.invariant.0 c.value_at.ensures w.if-value_at-eq0.true
+            (turn_turns c.loop-p.row c.if-value_at-eq0.row c.loop-p.p w.from.result w.turn_bit.result (search rules) (search rules) (search rules))),
       )
       | else-value_at-eq0 w ↦ (
         x,
         omega (arith, w.count-is),
         λ few es.
-            known_leave F laws c.args.t few c.args.row.now c.args.sums es (sym c.if-is_clean.ensures) c.locator_of-lower.result
-            c.locator_of-lower.ensures c.loop-p.row c.if-value_at-eq0.row c.loop-p.p c.loop-p.x c.loop-p.count c.value_at.result
-            c.loop-p.left (c.loop-p.invariant.2 few es) lt c.loop-p.invariant.0 c.value_at.ensures c.if-value_at-eq0.count c.if-value_at-eq0.left
-            w.if-value_at-eq0.false w.row-is w.count-is w.left-is,
+            rw (w.count-is, w.left-is, w.row-is)
+            (known_leave F laws c.args.t few c.args.row.now c.args.sums es (sym c.if-is_clean.ensures) c.locator_of-lower.result
+            c.locator_of-lower.ensures c.loop-p.row c.loop-p.row c.loop-p.p c.loop-p.x c.loop-p.count c.value_at.result
+            c.loop-p.left (c.loop-p.invariant.2 few es) lt c.loop-p.invariant.0 c.value_at.ensures w.if-value_at-eq0.false),
       )
     ]
 

@@ -27,17 +27,17 @@ loop-p-preserved g c =
         x,
         omega (arith, w.count-is),
         λ few b es.
-            known_turn F laws c.args.t few c.args.row.now c.loop-p.row c.try_position.new.row c.loop-p.p c.loop-p.x
-            c.loop-p.count c.loop-p.stands (c.loop-p.invariant.2 few b es) lt (room b) c.loop-p.invariant.0 w.in-Some.kept c.match-try_position.stands
-            c.match-try_position.count w.count-is w.stands-is (rw c.from.ensures at w.in-Some.ensures),
+            rw (w.count-is, w.stands-is)
+            (known_turn F laws c.args.t few c.args.row.now c.loop-p.row c.try_position.new.row c.loop-p.p c.loop-p.x c.loop-p.count c.loop-p.stands
+            (c.loop-p.invariant.2 few b es) lt (room b) c.loop-p.invariant.0 w.in-Some.kept (rw c.from.ensures at w.in-Some.ensures)),
       )
       | in_default-try_position w ↦ (
         x,
         omega (arith, w.count-is),
         λ few b es.
-            known_leave F laws c.args.t few c.args.row.now c.loop-p.row c.try_position.new.row c.loop-p.p c.loop-p.x
-            c.loop-p.count c.loop-p.stands (c.loop-p.invariant.2 few b es) lt (room b) c.loop-p.invariant.0 c.match-try_position.stands
-            c.match-try_position.count w.count-is w.stands-is (rw c.from.ensures at w.in_default-try_position.ensures),
+            rw (w.count-is, w.stands-is)
+            (known_leave F laws c.args.t few c.args.row.now c.loop-p.row c.try_position.new.row c.loop-p.p c.loop-p.x c.loop-p.count c.loop-p.stands
+            (c.loop-p.invariant.2 few b es) lt (room b) c.loop-p.invariant.0 (rw c.from.ensures at w.in_default-try_position.ensures)),
       )
     ]
 
