@@ -10,7 +10,7 @@ use Rattle.tally.specs.Buffers.{unset, unpacked}
 
 chosen : (h : Bool) (x d : List Bool) → cond h (some x) none ≡ some d → (h ≡ true) × (x ≡ d)
 chosen true x d e = (refl, cc)
-chosen false x d e = absurd (let z : ◌≡◌ {A = ℕ} 0 1 = cc in omega arith)
+chosen false x d e = cc
 
 unset-all : (f : ℕ → Bool) (n : ℕ) → ((j : ℕ) → j < n → f j ≡ false) → unset (tabulate f n) ≡ true
 unfolding tabulate

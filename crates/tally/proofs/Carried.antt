@@ -124,7 +124,7 @@ module _ (b : Setting) (law : Lawful b) where
   refused : (r : ℕ) (cell : ℕ → Bool) → r < R → ((c : List Bool) → Near b s (row_of b cell r) c → ⊥) → ReadPromise b r cell none × MendPromise b r cell false
   refused r cell l far = (
     record {
-      honest = λ h v w d e. absurd (let z : ◌≡◌ {A = ℕ} 0 1 = cc in omega arith);
+      honest = λ h v w d e. cc;
       sure = λ h v o. absurd (far _ (survivor h cell v r l o));
     },
     λ h v o. absurd (far _ (survivor h cell v r l o)),

@@ -155,7 +155,7 @@ module _ (b : Setting) (law : Lawful b) where
     calm-struck : (from len : ℕ) (ls : List ℕ) (w : Row) (a : Bool) → OneOf m (cond a (len ∷ ls) ls) → Within s w → (ls ≡ [] → w.newest ≡ 0)
         → Within s (cond a (after_knock b (struck b from len r) w) w) × (cond a (len ∷ ls) ls ≡ [] → (cond a (after_knock b (struck b from len r) w) w).newest ≡ 0)
     calm-struck from len ls w true o v f =
-        ((omega (arith, gentle from len o.1.0, f (nil_from_length ls (omega (arith, o.0)))), v.1), λ e. absurd (let z : ◌≡◌ {A = ℕ} 0 1 = cc in omega arith))
+        ((omega (arith, gentle from len o.1.0, f (nil_from_length ls (omega (arith, o.0)))), v.1), λ e. cc)
     calm-struck from len ls w false o v f = (v, f)
 
     calm_knocked : (from len : ℕ) (ps : List (List Call)) (w : Row) → AllByRecursion (λ p. OneOf m (knocks b p)) (onto (knock from len) ps) → Calm ps w → Calm (onto (knock from len) ps) (step b r (knock from len) w)

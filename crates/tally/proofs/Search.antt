@@ -15,11 +15,11 @@ module _ {A : Type 0} (p : A → Bool) where
   found_step P x a rest here there false is e = there e
 
   pub first_found : (P : A → Type 0) (xs : List A) (a : A) → AllByRecursion P xs → first p xs ≡ some a → P a × (p a ≡ true)
-  first_found P [] a all e = absurd (let z : ◌≡◌ {A = ℕ} 0 1 = cc in omega arith)
+  first_found P [] a all e = cc
   first_found P (x ∷ xs) a all e = found_step P x a (first p xs) all.0 (first_found P xs a all.1) (p x) refl e
 
   none_step : (x : A) (xs : List A) → (first p xs ≡ none → AllByRecursion (λ a. p a ≡ false) xs) → (h : Bool) → p x ≡ h → cond h (some x) (first p xs) ≡ none → AllByRecursion (λ a. p a ≡ false) (x ∷ xs)
-  none_step x xs there true is e = absurd (let z : ◌≡◌ {A = ℕ} 0 1 = cc in omega arith)
+  none_step x xs there true is e = cc
   none_step x xs there false is e = (is, there e)
 
   pub first-none : (xs : List A) → first p xs ≡ none → AllByRecursion (λ a. p a ≡ false) xs
