@@ -2,6 +2,7 @@
 //! holds. What happens between reading and printing is `run` of the crate `driver`.
 #![tactic(auto)]
 
+use answer::Reply;
 use book::Book;
 use corrector::Corrector;
 use driver::run;
@@ -24,12 +25,14 @@ fn main(rt: HostRuntime) -> io::Result<()> {
 fn serve<C: Corrector, M: Memory>(rt: &HostRuntime, book: &mut Book<C, M>) -> io::Result<()> {
     let mut input = BufReader::new(rt.alloc(), rt.stdin())?;
     for _ in 0..u64::MAX {
+        // With its newline, which makes an empty line a line to `run`.
         let mut text = Vec::new(rt.alloc());
         if input.read_until(b'\n', &mut text)? == 0 {
             break;
         }
         for answer in run(book, text.as_slice(), rt.alloc())? {
-            println!(rt; "{answer}")?;
+            let reply = Reply(answer);
+            println!(rt; "{reply}")?;
         }
     }
     Ok(())

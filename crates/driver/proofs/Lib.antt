@@ -1,4 +1,3 @@
-mod Buffers
 mod Telling
 mod Driving
 mod Running

@@ -2,4 +2,3 @@ mod Law
 mod Scaled
 mod Exact
 mod Sums
-mod Stored

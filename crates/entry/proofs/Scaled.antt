@@ -135,6 +135,3 @@ accepts v t h = go v t (sym (tests_limits v) ∙ h)
 
 pub refuses : (v : Float) → le (float_with_sign false v) (fin false 125 (pos 2)) ≡ false → Err Value ≡ entry_of v
 refuses v h = ap (λ (x : Bool). cond x (Ok (nearest (pos 64 *ℤ numerator v) (denominator v))) (Err Value)) (sym h ∙ tests_limits v)
-
-pub passes : (b : Bool) → b ≡ true → T b
-passes b e = subst T (sym e) tt

@@ -20,6 +20,7 @@ pub fn locate(angle: u16, entries: u16) -> Position
     ensures inside { 0 < entries → result.index < entries }
 {
     let scaled = u32::from(angle) * u32::from(entries);
+    // Casts, which are proved to lose nothing: `try_from` would have an error that cannot come.
     Position {
         index: (scaled / 65_536) as u16,
         fraction: (scaled % 65_536) as u16,

@@ -15,12 +15,6 @@ pub(crate) fn nearest_float(x: f64) -> f64
 pub(crate) fn nearest_quotient(sum: i64) -> i64
     ensures { result ≡ nearest sum 65536 }
 {
-    let size = sum.unsigned_abs();
-    let quotient = (size / 65_536) as i64;
-    let rounded = if size % 65_536 >= 32_768 {
-        quotient + 1
-    } else {
-        quotient
-    };
-    if sum < 0 { -rounded } else { rounded }
+    let size = (sum.unsigned_abs() + 32_768) / 65_536;
+    sum.signum() * size as i64
 }

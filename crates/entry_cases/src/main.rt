@@ -2,6 +2,7 @@
 #![tactic(auto)]
 
 use entry::{Position, arcseconds, blend, entry_of, from_bytes, locate, next_index, to_bytes};
+use refusal::Refusal;
 use std::io;
 
 fn main(rt: HostRuntime) -> io::Result<()> {
@@ -33,10 +34,7 @@ fn values(rt: &HostRuntime) -> io::Result<()> {
         f64::INFINITY,
         f64::NEG_INFINITY,
     ] {
-        let answer = match entry_of(value) {
-            Ok(entry) => Ok(entry),
-            Err(refusal) => Err(refusal.number()),
-        };
+        let answer = entry_of(value).map_err(Refusal::number);
         println!(rt; "{value}: {answer:?}")?;
     }
     Ok(())
@@ -67,17 +65,13 @@ fn bytes(rt: &HostRuntime) -> io::Result<()> {
     Ok(())
 }
 
-/// How many of all entries come back from their value in arcseconds. The counts go to 65,536, so they cannot wrap.
+/// How many of all entries come back from their value in arcseconds, and how many are refused.
 fn way_back(rt: &HostRuntime) -> io::Result<()> {
-    let mut same = 0u32;
-    let mut refused = 0u32;
-    for bits in 0..=u16::MAX {
-        let entry = from_bytes(bits.to_le_bytes());
-        match entry_of(arcseconds(entry)) {
-            Ok(back) if back == entry => same = same.wrapping_add(1),
-            Ok(_) => {}
-            Err(_) => refused = refused.wrapping_add(1),
-        }
-    }
+    let same = (i16::MIN..=i16::MAX)
+        .filter(|entry| entry_of(arcseconds(*entry)) == Ok(*entry))
+        .count();
+    let refused = (i16::MIN..=i16::MAX)
+        .filter(|entry| entry_of(arcseconds(*entry)).is_err())
+        .count();
     println!(rt; "{same} entries come back, {refused} are refused")
 }

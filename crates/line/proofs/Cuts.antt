@@ -1,24 +1,33 @@
 -- A list cut at the first byte that is w.
-use Rattle.std.proofs.Common.{◌≡◌, ℕ, ◌+◌, ◌<◌, cond, eqb, List, [], ◌∷◌, ◌++◌, length, get_or, take, drop, sym, refl, ap, ◌∙◌, arith, eq-eqb, ne_eqb}
+use Rattle.std.proofs.Common.{◌≡◌, ℕ, ◌+◌, ◌<◌, ◌≤◌, cond, eqb, List, [], ◌∷◌, ◌++◌, length, get_or, take, drop, Some, None, sym, refl, ap, ◌∙◌, arith, eq-eqb, ne_eqb, eqb-true}
+use borrow.Author.Tests.{eqb-false}
+use Rattle.std.specs.List.{position, position_or_len}
 use Rattle.std.proofs.ByRecursion.{All-from_get_or}
-use Rattle.std.proofs.lemmas.List.{length-append, length-take-le, get_or_at, get_or-take, take-append-drop, drop_more}
-use Rattle.line.specs.Lines.{First, Lacks}
+use Rattle.std.proofs.lemmas.List.{length-take-le, get_or-take, take-append-drop, drop_more}
+use Rattle.std.proofs.lemmas.List.Sums.{fails_before_first}
+use Rattle.std.proofs.lemmas.List.Quantifiers.{position-Some}
+use Rattle.line.specs.Lines.{Lacks}
 
--- What stands before it lacks w.
-pub front-lacks : (w : ℕ) (s : List ℕ) (k : ℕ) → First w s k → Lacks w (take k s)
-front-lacks w s k f = All-from_get_or (λ c. c ≡ w → ⊥) (take k s) 0 (λ i l.
-    let n : i < k = omega (arith, length-take-le k s f.0) in
-    λ e. f.1 i n (sym (get_or-take k s i 0 n) ∙ e))
+-- Where there is a w, what stands before it lacks w, and the list is its front, w, and the rest.
+pub with_one : (w : ℕ) (s : List ℕ) (k : ℕ) → position (λ b. eqb b w) s ≡ Some k → Lacks w (take k s) × (s ≡ take k s ++ (w ∷ drop (k + 1) s))
+with_one w s k e =
+    let p = position-Some (λ b. eqb b w) s k 0 e in (
+      All-from_get_or (λ c. c ≡ w → ⊥) (take k s) 0 (λ i l.
+          let n : i < k = omega (arith, length-take-le k s (omega arith)) in
+          λ h. eqb-false (get_or s i 0) w (p.2 i n) (sym (get_or-take k s i 0 n) ∙ h)),
+      sym (take-append-drop k s) ∙ ap (λ (x : List ℕ). take k s ++ x) (drop_more s k 0 p.0 ∙ ap (λ (c : ℕ). c ∷ drop (k + 1) s) (eqb-true (get_or s k 0) w p.1)),
+    )
 
--- Where there is a w, the list is its front, w, and the rest.
-pub cut : (w : ℕ) (s : List ℕ) (k : ℕ) → First w s k → k < length s → s ≡ take k s ++ (w ∷ drop (k + 1) s)
-cut w s k f l = sym (take-append-drop k s) ∙ ap (λ (x : List ℕ). take k s ++ x) (drop_more s k 0 l ∙ ap (λ (c : ℕ). c ∷ drop (k + 1) s) (f.2 l))
+-- Where there is none, the list lacks w.
+pub with_none : (w : ℕ) (s : List ℕ) → position (λ b. eqb b w) s ≡ None → Lacks w s
+with_none w s e =
+    let l : length s ≤ position_or_len (λ b. eqb b w) s = grind arith in
+    All-from_get_or (λ c. c ≡ w → ⊥) s 0 (λ i h. eqb-false (get_or s i 0) w (fails_before_first (λ b. eqb b w) s i 0 (omega arith)))
 
--- And there is one where the list is such a thing in any way.
-pub inside : (w : ℕ) (s : List ℕ) (k : ℕ) → First w s k → (t u : List ℕ) → s ≡ t ++ (w ∷ u) → length s ≡ k → ⊥
-inside w s k f t u e n =
-    let m = ap length e ∙ length-append t (w ∷ u) in
-    f.1 (length t) (omega arith) (ap (λ (x : List ℕ). get_or x (length t) 0) e ∙ get_or_at t w u 0 (length t) refl)
+-- And then it is no such thing in any way.
+pub inside : (w : ℕ) (t u : List ℕ) → Lacks w (t ++ (w ∷ u)) → ⊥
+inside w [] u a = a.0 refl
+inside w (c ∷ t) u a = inside w t u a.1
 
 -- What stands before the first w, and what stands after it.
 abbrev pub front : ℕ → List ℕ → List ℕ

@@ -1,10 +1,8 @@
 -- The lines of an input: cut at its first newline, joined again, and no others.
-use Rattle.std.proofs.Common.{◌≡◌, ℕ, ◌+◌, ◌<◌, ◌≤◌, Bool, true, false, cond, eqb, List, [], ◌∷◌, ◌++◌, length, take, drop, sym, refl, ap, ◌∙◌, subst, arith, ne_eqb, eqb-true}
+use Rattle.std.proofs.Common.{◌≡◌, ℕ, ◌<◌, Bool, true, false, cond, eqb, List, [], ◌∷◌, ◌++◌, length, sym, refl, ap, ◌∙◌, arith, ne_eqb, eqb-true}
 use borrow.Author.Tests.{eqb-false}
 use Rattle.std.specs.List.{AllByRecursion}
-use Rattle.std.proofs.lemmas.List.{take_all, drop_all}
-use Rattle.line.specs.Lines.{First, before, lines_of, Lacks, joined, ended, Cut}
-use Rattle.line.proofs.Cuts.{front-lacks, cut}
+use Rattle.line.specs.Lines.{before, lines_of, Lacks, joined, ended, Cut}
 
 -- ---- the first line
 
@@ -75,14 +73,3 @@ lines_ended (c ∷ d ∷ s) = ap (λ (ls : List (List ℕ)). cond (eqb c 10) ([]
 
 pub cut_lines : (s : List ℕ) → Cut s (lines_of s)
 cut_lines s = record { plain = plain s; whole = whole s; only = λ ms a e. sym (lines_joined ms a) ∙ ap lines_of e ∙ lines_ended s }
-
--- ---- a step through the input
-
-pub step_cut : (s : List ℕ) (k : ℕ) → First 10 s k → k < length s → lines_of s ≡ take k s ∷ lines_of (drop (k + 1) s)
-step_cut s k f l = ap lines_of (cut 10 s k f l) ∙ first-line (take k s) (drop (k + 1) s) (front-lacks 10 s k f)
-
-pub step_last : (s : List ℕ) (k : ℕ) → First 10 s k → 0 < length s → length s ≤ k → lines_of s ≡ take k s ∷ lines_of (drop k s)
-step_last s k f h l =
-    let e : take k s ≡ s = take_all k s l in
-    let a : Lacks 10 s = subst (Lacks 10) e (front-lacks 10 s k f) in
-    last_line s a h ∙ (λ i. sym e i ∷ lines_of (sym (drop_all k s l) i))

@@ -1,5 +1,5 @@
 -- The lines of an input. A line ends with a newline (10), the last one also with the input.
-use Rattle.std.specs.Prelude.{◌≡◌, ℕ, ◌<◌, ◌≤◌, cond, List, [], ◌∷◌, ◌++◌, length, ◌==◌, ◌≢◌, slice_index}
+use Rattle.std.specs.Prelude.{◌≡◌, ℕ, cond, List, [], ◌∷◌, ◌++◌, ◌==◌, ◌≢◌}
 use Rattle.std.specs.List.{AllByRecursion}
 
 -- A byte in front of the first line; it is a line of its own where there is none.
@@ -32,7 +32,3 @@ pub record Cut (s : List ℕ) (ls : List (List ℕ)) : Type 0 where
   pub plain : AllByRecursion (Lacks 10) ls
   pub whole : joined ls ≡ ended s
   pub only : (ms : List (List ℕ)) → AllByRecursion (Lacks 10) ms → joined ms ≡ ended s → ms ≡ ls
-
--- k is the index of the first w of s, or the length of s where there is none.
-abbrev pub First : ℕ → List ℕ → ℕ → Type 0
-First w s k = (k ≤ length s) × ((j : ℕ) → j < k → slice_index s j ≢ w) × (k < length s → slice_index s k ≡ w)

@@ -1,5 +1,5 @@
 //! The five commands, and the lines that spell them.
-ghost use Rattle.std.specs.Prelude.{◌≡◌, ℕ, ◌<◌, List, ◌∷◌, length, Ok, Err};
+ghost use Rattle.std.specs.Prelude.{◌≡◌, ℕ, ◌<◌, List, length, Ok, Err};
 ghost use Rattle.line.specs.Spelling.{Reads, Spells, Typable};
 ghost use Rattle.refusal.specs.declared.Refusal.TheVariants.{Line};
 
@@ -7,6 +7,8 @@ use crate::fields::{byte, number, split_number};
 use refusal::Refusal;
 
 /// What a line asks of the book.
+// Not `Call` of `history`: a write holds its one byte here and borrows a whole row there, so one type for both would be generic over
+// what is written, at each of its uses.
 #[derive(Clone, Copy, PartialEq, Eq, Debug)]
 pub enum Command {
     /// `W row byte`: write the byte into the row.
@@ -37,45 +39,25 @@ fn command_of(line: &[u8]) -> Result<Command, Refusal>
     ensures { Reads (Spells line.now) result }
 {
     match line {
-        [b'W', b' ', fields @ ..] => write(fields),
-        [b'R', b' ', field @ ..] => read(field),
-        [b'K', b' ', fields @ ..] => knock(fields),
-        [b'M', b' ', field @ ..] => mend(field),
+        [b'W', b' ', fields @ ..] => {
+            let (row, field) = split_number(fields)?;
+            let byte = byte(field)?;
+            Ok(Command::Write { row, byte })
+        }
+        [b'R', b' ', field @ ..] => {
+            let row = number(field)?;
+            Ok(Command::Read { row })
+        }
+        [b'K', b' ', fields @ ..] => {
+            let (from, field) = split_number(fields)?;
+            let length = number(field)?;
+            Ok(Command::Knock { from, length })
+        }
+        [b'M', b' ', field @ ..] => {
+            let row = number(field)?;
+            Ok(Command::Mend { row })
+        }
         [b'S'] => Ok(Command::Sweep),
         _ => Err(Refusal::Line),
     }
-}
-
-/// What stands after `W `.
-fn write(fields: &[u8]) -> Result<Command, Refusal>
-    ensures { Reads (Spells (87 ∷ 32 ∷ fields.now)) result }
-{
-    let (row, field) = split_number(fields)?;
-    let byte = byte(field)?;
-    Ok(Command::Write { row, byte })
-}
-
-/// What stands after `R `.
-fn read(field: &[u8]) -> Result<Command, Refusal>
-    ensures { Reads (Spells (82 ∷ 32 ∷ field.now)) result }
-{
-    let row = number(field)?;
-    Ok(Command::Read { row })
-}
-
-/// What stands after `K `.
-fn knock(fields: &[u8]) -> Result<Command, Refusal>
-    ensures { Reads (Spells (75 ∷ 32 ∷ fields.now)) result }
-{
-    let (from, field) = split_number(fields)?;
-    let length = number(field)?;
-    Ok(Command::Knock { from, length })
-}
-
-/// What stands after `M `.
-fn mend(field: &[u8]) -> Result<Command, Refusal>
-    ensures { Reads (Spells (77 ∷ 32 ∷ field.now)) result }
-{
-    let row = number(field)?;
-    Ok(Command::Mend { row })
 }

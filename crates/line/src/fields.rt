@@ -1,22 +1,18 @@
 //! The fields of a line: decimal numbers, bytes, and the single space between two fields.
-ghost use Rattle.line.specs.Lines.{First};
+ghost use Rattle.std.specs.Prelude.{◌≡◌, ◌==◌, position};
 ghost use Rattle.line.specs.Spelling.{HexDigit, HexNumeral, Leads, Numeral, Reads};
 
 use refusal::Refusal;
 
-/// The index of the first byte that is `wanted`, or the length where none is.
-pub(crate) fn position(bytes: &[u8], wanted: u8) -> usize
-    ensures { First wanted bytes.now result }
+/// The index of the first byte that is `wanted`.
+pub(crate) fn position(bytes: &[u8], wanted: u8) -> Option<usize>
+    ensures { result ≡ position (λ b. b == wanted) bytes.now }
 {
-    for (i, byte) in bytes.iter().enumerate() {
-        if *byte == wanted {
-            return i;
-        }
-    }
-    bytes.len()
+    bytes.iter().position(|byte| *byte == wanted)
 }
 
 /// A decimal number of one to five digits.
+// Digit by digit: `parse` of the library takes a sign and more digits too.
 pub(crate) fn number(field: &[u8]) -> Result<u32, Refusal>
     ensures { Reads (Numeral field.now) result }
 {
@@ -25,10 +21,7 @@ pub(crate) fn number(field: &[u8]) -> Result<u32, Refusal>
     }
     let mut value = 0u32;
     for digit in field {
-        if *digit < b'0' || *digit > b'9' {
-            return Err(Refusal::Line);
-        }
-        value = value * 10 + u32::from(*digit - b'0');
+        value = value * 10 + char::from(*digit).to_digit(10).ok_or(Refusal::Line)?;
     }
     Ok(value)
 }
@@ -37,11 +30,8 @@ pub(crate) fn number(field: &[u8]) -> Result<u32, Refusal>
 pub(crate) fn split_number(fields: &[u8]) -> Result<(u32, &[u8]), Refusal>
     ensures { Leads fields.now result }
 {
-    let space = position(fields, b' ');
-    if space == fields.len() {
-        return Err(Refusal::Line);
-    }
-    let number = number(&fields[0..space])?;
+    let space = position(fields, b' ').ok_or(Refusal::Line)?;
+    let number = number(&fields[..space])?;
     Ok((number, &fields[space + 1..]))
 }
 
@@ -58,6 +48,7 @@ pub(crate) fn byte(field: &[u8]) -> Result<u8, Refusal>
 }
 
 /// The value of one such digit.
+// By ranges: `to_digit` of the library takes the letters a to f too.
 fn hex_digit(digit: u8) -> Result<u8, Refusal>
     ensures { Reads (HexDigit digit) result }
 {

@@ -1,12 +1,13 @@
 //! Input cut into lines.
-ghost use Rattle.std.specs.Prelude.{◌≡◌, ◌<◌, length, MatchOption};
-ghost use Rattle.line.specs.Lines.{Cut, First, lines_of};
+ghost use Rattle.std.specs.Prelude.{◌≡◌, length};
+ghost use Rattle.line.specs.Lines.{Cut, lines_of};
 ghost use Rattle.line.specs.Steps.{Steps, remaining};
 ghost use Rattle.std.specs.Iterator.{at_most};
 
 use crate::fields::position;
 
 /// The lines of an input that are still to come.
+// By hand: the library's `split` of a slice holds a closure, whose type has no name to stand in a struct.
 #[derive(Clone, Copy, Drop)]
 pub struct Lines<'a> {
     rest: &'a [u8],
@@ -32,23 +33,16 @@ impl<'a> Iterator for Lines<'a> {
 
     fn next(&mut self) -> Option<&'a [u8]> {
         let input = self.rest;
-        let end = line_end(input)?;
-        self.rest = if end < input.len() {
-            &input[end + 1..]
-        } else {
-            &input[end..]
-        };
-        Some(&input[0..end])
-    }
-}
-
-/// Where the first line ends; `None` where no line is left.
-fn line_end(input: &[u8]) -> Option<usize>
-    ensures { MatchOption result (length input.now ≡ 0) (λ end. (0 < length input.now) × First 10 input.now end) }
-{
-    if input.is_empty() {
-        None
-    } else {
-        Some(position(input, b'\n'))
+        match position(input, b'\n') {
+            Some(end) => {
+                self.rest = &input[end + 1..];
+                Some(&input[..end])
+            }
+            None if input.is_empty() => None,
+            None => {
+                self.rest = &[];
+                Some(input)
+            }
+        }
     }
 }

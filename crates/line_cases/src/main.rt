@@ -2,7 +2,7 @@
 //! every kind. What must be printed was worked out by hand.
 #![tactic(auto)]
 
-use answer::Answer;
+use answer::{Answer, Reply};
 use line::{Lines, parse};
 use refusal::Refusal;
 use std::io;
@@ -15,8 +15,8 @@ fn main(rt: HostRuntime) -> io::Result<()> {
         match parse(line) {
             Ok(command) => println!(rt; "{command:?}")?,
             Err(refusal) => {
-                let answer = Answer::No(refusal);
-                println!(rt; "{answer}")?;
+                let reply = Reply(Err(refusal));
+                println!(rt; "{reply}")?;
             }
         }
     }
@@ -25,35 +25,36 @@ fn main(rt: HostRuntime) -> io::Result<()> {
 
 fn answers(rt: &HostRuntime) -> io::Result<()> {
     for answer in [
-        Answer::Done,
-        Answer::Read {
+        Ok(Answer::Done),
+        Ok(Answer::Read {
             byte: 0x01,
             count: 2,
-        },
-        Answer::Read {
+        }),
+        Ok(Answer::Read {
             byte: 0xAF,
             count: 0,
-        },
-        Answer::Read {
+        }),
+        Ok(Answer::Read {
             byte: 0xF9,
             count: 255,
-        },
-        Answer::Count(0),
-        Answer::Count(10),
-        Answer::Swept {
+        }),
+        Ok(Answer::Count(0)),
+        Ok(Answer::Count(10)),
+        Ok(Answer::Swept {
             accepted: 2,
             refused: 0,
             turned: 2,
-        },
-        Answer::Swept {
+        }),
+        Ok(Answer::Swept {
             accepted: 65_535,
             refused: 9,
             turned: 4_294_967_295,
-        },
-        Answer::No(Refusal::Line),
-        Answer::No(Refusal::NoCodeRow),
+        }),
+        Err(Refusal::Line),
+        Err(Refusal::NoCodeRow),
     ] {
-        println!(rt; "{answer}")?;
+        let reply = Reply(answer);
+        println!(rt; "{reply}")?;
     }
     Ok(())
 }

@@ -13,25 +13,25 @@ use std::fmt;
 #[derive(Clone, Copy, PartialEq, Eq, Debug)]
 pub enum Refusal {
     /// A bench line has none of the five forms.
-    Line,
+    Line = 1,
     /// The figures of a memory layer do not fit.
-    Layer,
+    Layer = 2,
     /// The figures of a field, a corrector or a book do not fit.
-    Figures,
+    Figures = 3,
     /// The number of entries does not fit, or there is no entry of that number.
-    Entry,
+    Entry = 4,
     /// A value is not a number, or lies outside -500 to 500 arcseconds.
-    Value,
+    Value = 5,
     /// There is no row of that number.
-    Row,
+    Row = 6,
     /// A buffer has the wrong length.
-    Length,
+    Length = 7,
     /// A buffer that is read has an unused bit set.
-    UnusedBit,
+    UnusedBit = 8,
     /// A cell or a run of places lies outside the memory.
-    Cell,
+    Cell = 9,
     /// No code row is near enough.
-    NoCodeRow,
+    NoCodeRow = 10,
 }
 
 impl Refusal {
@@ -39,18 +39,7 @@ impl Refusal {
     pub fn number(self) -> u8
         ensures { result ≡ number_of self }
     {
-        match self {
-            Refusal::Line => 1,
-            Refusal::Layer => 2,
-            Refusal::Figures => 3,
-            Refusal::Entry => 4,
-            Refusal::Value => 5,
-            Refusal::Row => 6,
-            Refusal::Length => 7,
-            Refusal::UnusedBit => 8,
-            Refusal::Cell => 9,
-            Refusal::NoCodeRow => 10,
-        }
+        self as u8
     }
 
     /// The reason in plain words.
@@ -73,6 +62,7 @@ impl Refusal {
 }
 
 /// Prints the reason.
+// By hand, over `reason`: a derived Display would hold the texts a second time, and states no output.
 impl fmt::Display for Refusal {
     ghost output = { λ r. Some (reason_of r) };
 

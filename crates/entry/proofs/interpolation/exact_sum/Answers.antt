@@ -32,9 +32,6 @@ module _ (c : goal.After-from-4) where
   fits : SFits w64 (blended c.args.entry c.args.next c.args.fraction)
   fits = sum_fits c.args.entry c.args.next c.args.fraction below c.ranges.entry c.ranges.next
 
-pub overflow_mul-result-2 : goal.overflow_mul-result-2
-overflow_mul-result-2 c = subst (SFits w64) (sym (product c)) (product-fits c)
-
 pub overflow_add-result : goal.overflow_add-result
 overflow_add-result c = subst (SFits w64) (sym (sum c)) (fits c)
 
