@@ -53,7 +53,7 @@ pub fn check_buffer(buffer: &[u8], n: u8) -> Result<(), Refusal>
     if buffer.len() != bytes_for(n) {
         return Err(Refusal::Length);
     }
-    for j in n as usize..8 * buffer.len() {
+    for j in usize::from(n)..8 * buffer.len() {
         if bit(buffer, j)? {
             return Err(Refusal::UnusedBit);
         }

@@ -10,6 +10,7 @@ use refusal::Refusal;
 
 const CELLS: u32 = 4096;
 
+// Not `LentCells` over its own bytes: a memory that lends from itself has no lifetime to name, and the calls below are one line each.
 #[derive(Drop)]
 pub struct BuiltInCells {
     bytes: [u8; 512],
@@ -43,7 +44,7 @@ impl Memory for BuiltInCells {
     }
 
     fn place(&self, i: u32) -> Result<u32, Refusal> {
-        if i < CELLS { Ok(i) } else { Err(Refusal::Cell) }
+        (i < CELLS).then_some(i).ok_or(Refusal::Cell)
     }
 
     fn put(&mut self, i: u32, v: bool) -> Result<(), Refusal> {

@@ -54,11 +54,7 @@ impl<E: Element> Memory for LentCells<'_, E> {
     }
 
     fn place(&self, i: u32) -> Result<u32, Refusal> {
-        if i < self.cells() {
-            Ok(i)
-        } else {
-            Err(Refusal::Cell)
-        }
+        (i < self.cells()).then_some(i).ok_or(Refusal::Cell)
     }
 
     fn put(&mut self, i: u32, v: bool) -> Result<(), Refusal> {

@@ -6,6 +6,7 @@ use crate::{ByteCells, Memory, WordCells};
 use refusal::Refusal;
 
 /// Gives cell `i` of the bytes the value `v`.
+// Not generic over the element: each tells what one slice holds, bytes or words, in the words of its owner.
 pub fn put_in_bytes(bytes: &mut [u8], i: u32, v: bool) -> Result<(), Refusal>
     ensures { Put (lent_cells 8 bytes.entry) (lent_cells 8 bytes.exit) i v result }
 {

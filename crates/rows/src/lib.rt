@@ -19,8 +19,8 @@ pub fn gather<M: Memory>(memory: &M, first: u32, n: u8, row: &mut [u8]) -> Resul
     check_run(memory, first, n, row)?;
     bits::clear(row);
     for j in 0..n {
-        let cell = memory.get(first + j as u32)?;
-        bits::put_bit(row, j as usize, cell)?;
+        let cell = memory.get(first + u32::from(j))?;
+        bits::put_bit(row, usize::from(j), cell)?;
     }
     Ok(())
 }
@@ -32,8 +32,8 @@ pub fn scatter<M: Memory>(memory: &mut M, first: u32, n: u8, row: &[u8]) -> Resu
 {
     check_run(memory, first, n, row)?;
     for j in 0..n {
-        let cell = bits::bit(row, j as usize)?;
-        memory.put(first + j as u32, cell)?;
+        let cell = bits::bit(row, usize::from(j))?;
+        memory.put(first + u32::from(j), cell)?;
     }
     Ok(())
 }
@@ -59,7 +59,7 @@ fn check_run<M: Memory>(memory: &M, first: u32, n: u8, row: &[u8]) -> Result<(),
         return Err(Refusal::Length);
     }
     let cells = memory.cells();
-    if first > cells || n as u32 > cells - first {
+    if first > cells || u32::from(n) > cells - first {
         return Err(Refusal::Cell);
     }
     Ok(())
