@@ -2,8 +2,6 @@
 //! the multiples of the generator polynomial, found by long division, and the nearest is found by counting.
 #![tactic(auto)]
 
-ghost use Rattle.std.specs.Prelude.{◌<◌};
-
 use corrector::{Agreement, Corrector, agree};
 use direct_corrector::DirectCorrector;
 use field::{ShiftField, TableField};
@@ -40,11 +38,8 @@ impl Case {
     }
 }
 
-/// Whether a row is a multiple of a polynomial; bit i stands for x^i.
-fn is_multiple(row: u16, polynomial: u16) -> bool
-    requires { 0 < polynomial }
-{
-    let degree = polynomial.ilog2();
+/// Whether a row is a multiple of a polynomial of the degree; bit i stands for x^i.
+fn is_multiple(row: u16, polynomial: u16, degree: u32) -> bool {
     let mut rest = row;
     for i in (degree..16).rev() {
         if (rest >> i) % 2 == 1 {
@@ -54,12 +49,10 @@ fn is_multiple(row: u16, polynomial: u16) -> bool
     rest == 0
 }
 
-/// Every row beside the nearest multiple of the generator, in the order of the rows.
-fn cases(alloc: Global, generator: u16) -> Result<Vec<Case>, AllocError>
-    requires { 0 < generator }
-{
+/// Every row beside the nearest multiple of the generator of the degree, in the order of the rows.
+fn cases(alloc: Global, generator: u16, degree: u32) -> Result<Vec<Case>, AllocError> {
     let code: Vec<u16> = (0..ROWS)
-        .filter(|row| is_multiple(*row, generator))
+        .filter(|row| is_multiple(*row, generator, degree))
         .collect(alloc)?;
     (0..ROWS)
         .map(|row| Case {
@@ -80,11 +73,11 @@ fn main(rt: HostRuntime) -> io::Result<()> {
     println!(rt;
         "m = 4, all 32768 rows, both correctors beside the nearest code rows by counting:"
     )?;
-    // The published generators of the codes of 15 cells that correct one, two and three errors
-    for (t, generator) in [(1, 0x13), (2, 0x1D1), (3, 0x537)] {
+    // The published generators of the codes of 15 cells that correct one, two and three errors, and their degrees
+    for (t, generator, degree) in [(1, 0x13, 4), (2, 0x1D1, 8), (3, 0x537, 10)] {
         let step = StepCorrector::new(ShiftField::new(4), t);
         let direct = DirectCorrector::new(TableField::new(4), t);
-        let all = cases(rt.alloc(), generator)?;
+        let all = cases(rt.alloc(), generator, degree)?;
         let corrected = |errors: u32| {
             all.iter()
                 .filter(|case| case.distance() == errors && errors <= u32::from(t))

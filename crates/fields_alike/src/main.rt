@@ -1,19 +1,15 @@
 //! The two house fields beside each other, and beside a product by long division: every degree, every pair of bytes.
 #![tactic(auto)]
 
-ghost use Rattle.std.specs.Prelude.{◌<◌};
-
 use field::{Field, ShiftField, TableField};
 use std::io;
 
-/// The product of two polynomials, divided by a third: neither shifts and reduces in turn nor looks anything up.
-fn long_division(a: u8, b: u8, divisor: u16) -> u16
-    requires { 0 < divisor }
-{
+/// The product of two polynomials, divided by a third, of degree m: neither shifts and reduces in turn nor looks anything up.
+fn long_division(a: u8, b: u8, m: u8, divisor: u16) -> u16 {
     let mut rest = (0..8u16)
         .filter(|i| (b >> *i) % 2 == 1)
         .fold(0, |sum, i| sum ^ (u16::from(a) << i));
-    let degree = divisor.ilog2();
+    let degree = u32::from(m);
     for i in (degree..16).rev() {
         if (rest >> i) % 2 == 1 {
             rest ^= divisor << (i - degree);
@@ -41,16 +37,14 @@ fn pairs_with<P: Fn(u8, u8) -> bool>(property: P) -> usize
         .count()
 }
 
-fn compare(rt: &impl Print, m: u8, divisor: u16) -> io::Result<()>
-    requires { 0 < divisor }
-{
+fn compare(rt: &impl Print, m: u8, divisor: u16) -> io::Result<()> {
     let slow = ShiftField::new(m);
     let fast = TableField::new(m);
     let sums = pairs_with(|a, b| slow.add(a, b) == fast.add(a, b));
     let products = pairs_with(|a, b| slow.mul(a, b) == fast.mul(a, b));
     let low = u8::MAX >> (8 - fast.degree());
     let divisions = pairs_with(|a, b| {
-        long_division(a & low, b & low, divisor) == u16::from(fast.mul(a, b))
+        long_division(a & low, b & low, m, divisor) == u16::from(fast.mul(a, b))
     });
     let inverses = bytes_with(|a| slow.inverse(a) == fast.inverse(a));
     let exponents = bytes_with(|a| slow.exponent(a) == fast.exponent(a));
