@@ -14,10 +14,10 @@ import sys
 KINDS = {
     1: "results passed on by hand, enums with a refusal among their variants",
     2: "functions of one shape: the same text, or in longer ones the same but for names, types and numbers",
-    3: "loops over a range of numbers, and loops that count by hand",
+    3: "loops that count by hand, or index a slice by a number that they count",
     4: "conversions, comparisons and printing by hand",
     5: "a clause that stands in three functions, two parameters that travel together in three",
-    6: "arrays with a length beside them, arrays side by side",
+    6: "arrays of which a part is used, and fields that are arrays",
     7: "a match on which step to run, a table of functions",
     8: "answers of proofs",
 }
@@ -40,9 +40,9 @@ def files(commit):
 
 LINES = [
     (1, re.compile(r"\bErr\(\w+\) =>|unreachable\(\)|^\s*\w+\(Refusal\),")),
-    (3, re.compile(r"^\s*while |^\s*for \w+ in .*\.\.|^\s*\w+ \+= 1;")),
+    (3, re.compile(r"^\s*while |^\s*for _\w* in .*\.\.|^\s*\w+ [+-]= 1;")),
     (4, re.compile(r" as [ui]\w+|^impl.* (Display|PartialEq|Ord|Clone|From|TryFrom)\b|fn (same_|hex_|number\b)")),
-    (6, re.compile(r"\[0(u8|u16|u32)?; \d+\]|^\s*\w+: \[[\w ]+; \w+\],")),
+    (6, re.compile(r"^\s*\w+: \[[\w ]+; \w+\],")),
     (7, re.compile(r"match \*?(call|command|step)\b|: fn\(|\bdyn ")),
 ]
 
@@ -65,6 +65,25 @@ def functions(text):
             yield text.count("\n", 0, m.start()) + 1, m[2], parameters, clauses, rest[len(head) :][: close.start()]
 
 
+def counted(lines):
+    """Loops over a range that index by its number, and arrays that are cut to a length: the line's number and the kind."""
+    for i, line in enumerate(lines):
+        loop = re.match(r"(\s*)for (\w+) in .*\.\.", line)
+        array = re.match(r"(\s*)let mut (\w+) = (?:\[\w+; \w+\]|\w+\()", line)
+        if not (loop or array):
+            continue
+        indent, name = (loop or array).groups()[:2]
+        for later in lines[i + 1 :]:
+            if len(later) - len(later.lstrip()) < len(indent) + (4 if loop else 0) and later.strip():
+                break
+            if loop and re.search(rf"\w\[[^\]]*\b{name}\b", later):
+                yield i + 1, 3
+                break
+            if array and re.search(rf"&mut {name}\[\w*\.\.", later):
+                yield i + 1, 6
+                break
+
+
 def shape(body):
     body = re.sub(r"//.*", "", body)
     return re.sub(r"\b\d\w*\b", "0", re.sub(r"\b[A-Za-z_]\w*\b", "x", re.sub(r"\s+", " ", body)))
@@ -81,6 +100,8 @@ def main():
             continue
         for kind, pattern in LINES:
             found[kind] += [(path, i + 1, line.strip()) for i, line in enumerate(lines) if pattern.search(line) and "//" not in line.strip()[:2]]
+        for line, kind in counted(lines):
+            found[kind].append((path, line, lines[line - 1].strip()))
         for line, name, parameters, said, body in functions(text):
             alike = shape(body) if len(shape(body)) > 40 else name + body
             shapes[alike].append((path, line, name))
