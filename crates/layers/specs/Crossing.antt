@@ -6,7 +6,10 @@ use Rattle.std.proofs.lemmas.Nat.{div-add-mod', div_below, mod_below}
 use Rattle.std.proofs.lemmas.Bool.{cond_both}
 use Rattle.std.proofs.lemmas.Bool.Decides.{nat_tests}
 use Rattle.memory.specs.Layered.{Picks}
-use Rattle.layers.specs.Layers.{window_size, InterleaverFits, interleaver_test, interleaver_size, crossed}
+use Rattle.layers.specs.Layers.{WindowFits, window_test, window_size, InterleaverFits, interleaver_test, interleaver_size, crossed}
+
+pub window_figures : (c l n : ℕ) → window_test c l n ≡ true → WindowFits c l n
+window_figures c l n e = grind (arith, nat_tests)
 
 pub window_picks : (c l n : ℕ) → Picks (window_size c l) (λ n k. c + k) n
 window_picks c l n = record {
