@@ -12,7 +12,7 @@ use Rattle.galois.proofs.Least.{Code, code_cells, rows_apart}
 use Rattle.galois.proofs.PowerSums.{power_sum-cong}
 use Rattle.galois.proofs.Tabulated.{length-tabulate, get_or-tabulate, tabulate-cong, tabulate-get_or, drop-tabulate, same_list}
 use Rattle.bch.specs.Steps.{coefficient, register}
-use Rattle.bch.proofs.CodeRows.{Packs, all_cells, coefficient-lt, one_row, register-code}
+use Rattle.bch.proofs.CodeRows.{Packs, row_parts, coefficient-lt, one_row, register-code}
 use Rattle.bch.proofs.Packing.{push_bits}
 use Rattle.tally.specs.Rows.{every, first}
 use Rattle.tally.specs.Fields.{is_code, or_zeros, code_row_of, FieldCode, FieldCodes}
@@ -103,7 +103,7 @@ module _ (F : FieldModel) (l : FieldLaws F) (t : ℕ) (few : Few t) where
     exists = (
       tabulate laid_out n,
       listed-code laid_out (register-code F l t few generator.0 generator.1 (cell_of d) laid_out below above),
-      ap (λ m. drop r (tabulate laid_out m)) (sym (all_cells F l t few)) ∙ drop-tabulate laid_out r k
+      ap (λ m. drop r (tabulate laid_out m)) (sym (row_parts F l t few)) ∙ drop-tabulate laid_out r k
           ∙ tabulate-cong (λ j. laid_out (r + j)) (cell_of d) k above
           ∙ ap (tabulate (cell_of d)) (sym long) ∙ tabulate-get_or d false,
     )
@@ -147,7 +147,7 @@ module _ (F : FieldModel) (l : FieldLaws F) (t : ℕ) (few : Few t) where
   dropped_zeros (suc a) b = let z : suc a + b ≡ suc (a + b) = omega arith in ap (λ m. drop (suc a) (replicate m false)) z ∙ dropped_zeros a b
 
   zero_data : data_of F t (replicate n false) ≡ replicate k false
-  zero_data = ap (λ m. drop r (replicate m false)) (sym (all_cells F l t few)) ∙ dropped_zeros r k
+  zero_data = ap (λ m. drop r (replicate m false)) (sym (row_parts F l t few)) ∙ dropped_zeros r k
 
   field_code : FieldCode F t
   field_code = record {
