@@ -49,12 +49,7 @@ distance-zero (x ∷ xs) (y ∷ ys) e = ap₂ (λ (z : Bool) (zs : List Bool). z
 bits_from : (f : ℕ → ℕ) (count : ℕ) → ((i : ℕ) → f i < 2) → (d i : ℕ) → i + d ≡ count → (x : ℕ) × ((j : ℕ) → i + j < count → bit_of x j ≡ eqb (f (i + j)) 1)
 bits_from f count h zero i e = (0, λ j l. absurd (omega arith))
 bits_from f count h (suc d) i e =
-    let up = bits_from f count h d (suc i) (omega arith) in
-    let z : suc i - 1 ≡ i = omega arith in (
-      2 * up.0 + f i,
-      subst (λ (q : ℕ). (j : ℕ) → q + j < count → bit_of (2 * up.0 + f q) j ≡ eqb (f (q + j)) 1) z
-          (push_bits f count (suc i) up.0 (omega arith) (h (suc i - 1)) up.1),
-    )
+    let up = bits_from f count h d (i + 1) (omega arith) in (2 * up.0 + f i, push_bits f count i up.0 (h i) up.1)
 
 module _ (F : FieldModel) (l : FieldLaws F) (t : ℕ) (few : Few t) where
   abbrev r : ℕ
