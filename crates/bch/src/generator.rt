@@ -42,7 +42,8 @@ impl<'a, F: Field> Code<'a, F> {
         let mut here = 1u16;
         let mut lead = f.alpha();
         let mut root = lead;
-        for _d in 0..self.check_cells() {
+        // One loop of n - k turns: with a loop for each coset, where each one ends would be one more thing to prove.
+        for _ in 0..self.check_cells() {
             g = times_factor(f, root, g);
             here = 2 * here % n;
             root = f.mul(root, root);
@@ -63,6 +64,7 @@ fn times_factor<F: Field>(f: &F, a: u8, g: [u8; 25]) -> [u8; 25]
     requires element { a < size (F.Field.model f.now) }
     ensures { (i : ℕ) → i < 25 → slice_index result i ≡ factor (numbers (F.Field.model f.now)) a (λ j. slice_index g j) i }
 {
+    // Not `zip` over `iter_mut`: of what is written through an adapter of `iter_mut` a proof knows nothing.
     let mut product = [0u8; 25];
     let mut below = 0;
     for (i, here) in g.iter().enumerate() {
