@@ -29,8 +29,8 @@ module _ (F : FieldModel) (l : FieldLaws F) (t : ℕ) (few : Few t) where
   abbrev k : ℕ
   k = data_cells F.m t
 
-  pub all_cells : r + k ≡ units F
-  all_cells = let h = is_fine.short in let p = is_fine.some in omega arith
+  pub row_parts : r + k ≡ units F
+  row_parts = let h = is_fine.short in let p = is_fine.some in omega arith
 
   pub coefficient-bit : (i : ℕ) → (generated (ops F l) (root_at F l) r i ≡ (ops F l).o) ⊎ (generated (ops F l) (root_at F l) r i ≡ (ops F l).e)
   coefficient-bit = generator_bit (field2 F l) (alpha F l) (units F) (turn F l) (once F l) t r is_fine
@@ -56,12 +56,12 @@ module _ (F : FieldModel) (l : FieldLaws F) (t : ℕ) (few : Few t) where
   pub to_code : (c : ℕ → Bool) → ((d : ℕ) → d < r → row_value F l c (r + k) (root_at F l d) ≡ (ops F l).o) → Code F t c
   to_code c h i lt =
       sym (power_sum-value F l (suc (i + i)) c (units F))
-      ∙ ap (λ n. (row_value F l c n (pow (ops F l) (alpha F l) (suc (i + i)))).0) (sym all_cells)
+      ∙ ap (λ n. (row_value F l c n (pow (ops F l) (alpha F l) (suc (i + i)))).0) (sym row_parts)
       ∙ number F l (starts_vanish (field2 F l) (alpha F l) (units F) (turn F l) (once F l) t r is_fine (λ p. bit_k F l (c p)) (r + k) h i lt)
 
   pub from_code : (c : ℕ → Bool) → Code F t c → (i : ℕ) → i < t → row_value F l c (r + k) (pow (ops F l) (alpha F l) (suc (i + i))) ≡ (ops F l).o
   from_code c h i lt =
-      same F _ _ (ap (λ n. (row_value F l c n (pow (ops F l) (alpha F l) (suc (i + i)))).0) all_cells ∙ power_sum-value F l (suc (i + i)) c (units F) ∙ h i lt)
+      same F _ _ (ap (λ n. (row_value F l c n (pow (ops F l) (alpha F l) (suc (i + i)))).0) row_parts ∙ power_sum-value F l (suc (i + i)) c (units F) ∙ h i lt)
 
   -- two code rows with the same data are one
   pub one_row : (c d : ℕ → Bool) → Code F t c → Code F t d → ((j : ℕ) → j < k → c (r + j) ≡ d (r + j)) → (j : ℕ) → j < units F → c j ≡ d j
@@ -70,7 +70,7 @@ module _ (F : FieldModel) (l : FieldLaws F) (t : ℕ) (few : Few t) where
       (only_one (field2 F l) (alpha F l) (units F) (turn F l) (once F l) t r is_fine (λ p. bit_k F l (c p)) (λ p. bit_k F l (d p)) k
       (λ i _. bit_k_square F l (c i)) (λ i _. bit_k_square F l (d i))
       (λ i ge u. let z : r + (i - r) ≡ i = omega arith in ap (λ n. bit_k F l (c n)) (sym z) ∙ ap (bit_k F l) (same_data (i - r) (omega arith)) ∙ ap (λ n. bit_k F l (d n)) z)
-      (from_code c cc) (from_code d cd) j (let z = all_cells in omega arith))
+      (from_code c cc) (from_code d cd) j (let z = row_parts in omega arith))
 
   -- the register's bits below the data make a code row
   module _ (g : ℕ) (G : Packs F t g) (given row : ℕ → Bool)

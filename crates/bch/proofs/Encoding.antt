@@ -14,7 +14,7 @@ use Rattle.bch.specs.Buffers.{shown}
 use Rattle.bch.specs.Published.{shifted, IsGenerator, ByDivision}
 use Rattle.bch.specs.Steps.{register, laid}
 use Rattle.bch.proofs.Laying.{laid-low, laid-high, laid-past}
-use Rattle.bch.proofs.CodeRows.{Packs, all_cells, one_row, register-code}
+use Rattle.bch.proofs.CodeRows.{Packs, row_parts, one_row, register-code}
 use Rattle.bch.proofs.Published.{g, generates, code_multiple, xor_self, shifted-low, shifted-from}
 
 -- what a list of cells says at each position is what its function says
@@ -66,13 +66,13 @@ module _ (F : FieldModel) (l : FieldLaws F) (t : ℕ) (few : Few t) where
     code = register-code F l t few x packs (bit_at 8 given) (bit_at 8 row) below above
 
     pub row_buffer : Sized n row → Buffer n row
-    row_buffer sized = record { sized = sized; unused = λ j ge lt. cells j ∙ laid-past check r given k j (let z = all_cells F l t few in omega arith) }
+    row_buffer sized = record { sized = sized; unused = λ j ge lt. cells j ∙ laid-past check r given k j (let z = row_parts F l t few in omega arith) }
 
     pub systematic : Systematic F t (shown k given) (shown n row)
     systematic = record {
       code = shown-code F t row code;
       holds =
-          ap (λ m. drop r (tabulate (bit_at 8 row) m)) (sym (all_cells F l t few)) ∙ drop-tabulate (bit_at 8 row) r k
+          ap (λ m. drop r (tabulate (bit_at 8 row) m)) (sym (row_parts F l t few)) ∙ drop-tabulate (bit_at 8 row) r k
           ∙ tabulate-cong (λ j. bit_at 8 row (r + j)) (bit_at 8 given) k above;
       only = λ other co eq.
           same_list other (shown n row) false (co.cells ∙ sym (length-tabulate (bit_at 8 row) n))
@@ -92,7 +92,7 @@ module _ (F : FieldModel) (l : FieldLaws F) (t : ℕ) (few : Few t) where
     parts j h = elim (cases_lt j r) [
       | inl lt ↦ inl (shifted-low r (cell_of (shown k given)) j lt, ap (λ b. cond b (bit_at 8 row j) false) (lt-ltb j r lt))
       | inr ge ↦
-          let z = all_cells F l t few in
+          let z = row_parts F l t few in
           let back : r + (j - r) ≡ j = omega arith in
           let small : j - r < k = omega arith in
           inr (
@@ -112,7 +112,7 @@ module _ (F : FieldModel) (l : FieldLaws F) (t : ℕ) (few : Few t) where
           generates = generates F l t few;
           smaller = λ j h. ap (λ b. cond b (bit_at 8 row j) false) (le-ltb j r h);
           divides = λ j h.
-              let row_is = q.1 j (let z = all_cells F l t few in omega arith) in
+              let row_is = q.1 j (let z = row_parts F l t few in omega arith) in
               elim (parts j h) [
                 | inl p ↦ p.0 ∙ sym (ap₂ xor (sym row_is) p.1 ∙ xor_self (bit_at 8 row j))
                 | inr p ↦ p.0 ∙ sym (ap₂ xor (sym row_is) p.1 ∙ xor-false (bit_at 8 row j))

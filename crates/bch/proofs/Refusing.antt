@@ -1,7 +1,6 @@
 -- The answers of the calls that take two buffers, put together from what the code has done.
-use Rattle.std.proofs.Common.{◌≡◌, ℕ, ◌+◌, true, false, cond, ltb, List, length, drop, is_ok, Ok, Err, Result, sym, ap, ◌∙◌}
-use Rattle.std.proofs.lemmas.Bool.{lt-ltb, le-ltb, false≢true}
-use Rattle.refusal.specs.declared.Refusal.{Refusal}
+use Rattle.std.proofs.Common.{◌≡◌, ℕ, ◌+◌, false, cond, ltb, List, length, drop, Ok, sym, ap, ◌∙◌}
+use Rattle.std.proofs.lemmas.Bool.{lt-ltb, le-ltb}
 use Rattle.bits.specs.Bits.{bit_at, Sized, Buffer}
 use Rattle.galois.specs.Lists.{tabulate}
 use Rattle.galois.specs.Model.{FieldModel, FieldLaws, units}
@@ -9,18 +8,16 @@ use Rattle.galois.specs.Rows.{Few, check_cells, data_cells}
 use Rattle.galois.proofs.Tabulated.{tabulate-cong, drop-tabulate}
 use Rattle.bch.specs.Calls.{Encoded, Extracted}
 use Rattle.bch.specs.Steps.{data_register, row_laid}
-use Rattle.bch.proofs.CodeRows.{Packs, all_cells}
+use Rattle.bch.proofs.CodeRows.{Packs, row_parts}
 use Rattle.bch.proofs.Encoding.{row_buffer, systematic, by-division}
 
 module _ (F : FieldModel) (l : FieldLaws F) (t : ℕ) (few : Few t) where
   abbrev k : ℕ
   k = data_cells F.m t
 
-  pub encode-done : (given row after : List ℕ) (x check : ℕ) (answer : Result (Unit {0}) Refusal) → is_ok answer ≡ true
-      → Sized (units F) row → length after ≡ length row → Buffer k given → Packs F t x → check ≡ data_register F t x given
-      → ((j : ℕ) → bit_at 8 after j ≡ row_laid F t check given j) → Encoded {U = Unit {0}} F t given row after answer
-  encode-done given row after x check (Err e) ok sized kept buffer packs ec cells = absurd (false≢true ok)
-  encode-done given row after x check (Ok u) ok sized kept buffer packs ec cells = (
+  pub encode-done : (given row after : List ℕ) (x check : ℕ) (u : Unit {0}) → Sized (units F) row → length after ≡ length row → Buffer k given → Packs F t x → check ≡ data_register F t x given
+      → ((j : ℕ) → bit_at 8 after j ≡ row_laid F t check given j) → Encoded {U = Unit {0}} F t given row after (Ok u)
+  encode-done given row after x check u sized kept buffer packs ec cells = (
     few,
     buffer,
     sized,
@@ -39,5 +36,5 @@ module _ (F : FieldModel) (l : FieldLaws F) (t : ℕ) (few : Few t) where
     tabulate-cong (bit_at 8 after) (λ j. bit_at 8 row (check_cells F.m t + j)) k
         (λ j lt. cells j ∙ ap (λ b. cond b (bit_at 8 row (check_cells F.m t + j)) false) (lt-ltb j k lt))
         ∙ sym (drop-tabulate (bit_at 8 row) (check_cells F.m t) k)
-        ∙ ap (λ m. drop (check_cells F.m t) (tabulate (bit_at 8 row) m)) (all_cells F l t few),
+        ∙ ap (λ m. drop (check_cells F.m t) (tabulate (bit_at 8 row) m)) (row_parts F l t few),
   )

@@ -1,5 +1,5 @@
 //! The systematic encoder, and taking the data out again.
-ghost use Rattle.std.specs.Prelude.{◌≡◌, ℕ, ◌*◌, ◌≤◌, true, length, is_ok};
+ghost use Rattle.std.specs.Prelude.{◌≡◌, ℕ, ◌*◌, ◌≤◌, length};
 ghost use Rattle.bits.specs.Bits.{bit_at};
 ghost use Rattle.galois.specs.Rows.{data_cells};
 ghost use Rattle.bch.specs.Calls.{Encoded, Extracted};
@@ -21,7 +21,8 @@ pub fn encode<F: Field>(f: &F, t: u8, data: &[u8], row: &mut [u8]) -> Result<(),
         return Err(Refusal::Length);
     }
     check_buffer(data, code.data_cells())?;
-    code.lay(code.remainder(code.generator(), data), data, row)
+    code.lay(code.remainder(code.generator(), data), data, row);
+    Ok(())
 }
 
 /// Leaves in the data buffer the data of the row. Refused with 3 for a t that does not fit, with 7 for a buffer of the wrong length, with 8
@@ -66,21 +67,19 @@ impl<'a, F: Field> Code<'a, F> {
     }
 
     /// Lays the check cells and then the data cells into a row buffer that has room for them.
-    fn lay(&self, check: u32, data: &[u8], row: &mut [u8]) -> Result<(), Refusal>
+    fn lay(&self, check: u32, data: &[u8], row: &mut [u8])
         requires given { data_cells (F.Field.model self.now.field.now).m self.now.t ≤ 8 * length «data».now }
         requires room { all_cells (F.Field.model self.now.field.now) self.now.t ≤ 8 * length row.old }
-        ensures done { is_ok result ≡ true }
-        ensures cells { (j : ℕ) → bit_at 8 row.new j ≡ row_laid (F.Field.model self.now.field.now) self.now.t check «data».now j }
+        ensures { (j : ℕ) → bit_at 8 row.new j ≡ row_laid (F.Field.model self.now.field.now) self.now.t check «data».now j }
     {
         let r = usize::from(self.check_cells());
         let k = usize::from(self.data_cells());
         clear(row);
         for j in 0..r {
-            put_bit(row, j, (check >> j) % 2 == 1)?;
+            put_bit(row, j, (check >> j) % 2 == 1).unwrap();
         }
         for j in 0..k {
-            put_bit(row, r + j, bit(data, j)?)?;
+            put_bit(row, r + j, bit(data, j).unwrap()).unwrap();
         }
-        Ok(())
     }
 }

@@ -1,5 +1,5 @@
 //! The generator polynomial.
-ghost use Rattle.std.specs.Prelude.{◌≡◌, ℕ, ◌+◌, ◌^◌, ◌<◌, ◌≤◌, ◌==◌, slice_index};
+ghost use Rattle.std.specs.Prelude.{◌≡◌, ℕ, ◌+◌, ◌^◌, ◌<◌, ◌≤◌, ◌==◌, length, slice_index};
 ghost use Rattle.bits.specs.Bits.{bit_of};
 ghost use Rattle.galois.specs.Model.{size};
 ghost use Rattle.galois.specs.Polynomials.{factor};
@@ -26,7 +26,7 @@ impl<'a, F: Field> Code<'a, F> {
         ensures below { result < 2 ^ (check_cells (F.Field.model self.now.field.now).m self.now.t + 1) }
         ensures bits { (i : ℕ) → i ≤ check_cells (F.Field.model self.now.field.now).m self.now.t → bit_of result i ≡ (coefficient (F.Field.model self.now.field.now) (check_cells (F.Field.model self.now.field.now).m self.now.t) i == 1) }
     {
-        packed(self.coefficients(), usize::from(self.check_cells()) + 1)
+        packed(&self.coefficients()[..=usize::from(self.check_cells())])
     }
 
     /// The product of x + alpha^j over the exponents j of the cosets: 1 and its doubles, 3 and its doubles, 5 and its doubles.
@@ -42,7 +42,8 @@ impl<'a, F: Field> Code<'a, F> {
         let mut here = 1u16;
         let mut lead = f.alpha();
         let mut root = lead;
-        for _d in 0..self.check_cells() {
+        // One loop of n - k turns: with a loop for each coset, where each one ends would be one more thing to prove.
+        for _ in 0..self.check_cells() {
             g = times_factor(f, root, g);
             here = 2 * here % n;
             root = f.mul(root, root);
@@ -63,6 +64,7 @@ fn times_factor<F: Field>(f: &F, a: u8, g: [u8; 25]) -> [u8; 25]
     requires element { a < size (F.Field.model f.now) }
     ensures { (i : ℕ) → i < 25 → slice_index result i ≡ factor (numbers (F.Field.model f.now)) a (λ j. slice_index g j) i }
 {
+    // Not `zip` over `iter_mut`: of what is written through an adapter of `iter_mut` a proof knows nothing.
     let mut product = [0u8; 25];
     let mut below = 0;
     for (i, here) in g.iter().enumerate() {
@@ -72,16 +74,16 @@ fn times_factor<F: Field>(f: &F, a: u8, g: [u8; 25]) -> [u8; 25]
     product
 }
 
-/// The number whose bits are the first `count` coefficients, each 0 or 1.
-fn packed(g: [u8; 25], count: usize) -> u32
-    requires room { count ≤ 25 }
-    requires bits { (i : ℕ) → i < 25 → slice_index g i < 2 }
-    ensures below { result < 2 ^ count }
-    ensures bits { (i : ℕ) → i < count → bit_of result i ≡ (slice_index g i == 1) }
+/// The number whose bits are the coefficients, each 0 or 1.
+fn packed(coefficients: &[u8]) -> u32
+    requires room { length coefficients.now ≤ 25 }
+    requires bits { (i : ℕ) → i < length coefficients.now → slice_index coefficients.now i < 2 }
+    ensures below { result < 2 ^ length coefficients.now }
+    ensures bits { (i : ℕ) → i < length coefficients.now → bit_of result i ≡ (slice_index coefficients.now i == 1) }
 {
     let mut all = 0u32;
-    for i in (0..count).rev() {
-        all = 2 * all + u32::from(g[i]);
+    for bit in coefficients.iter().rev() {
+        all = 2 * all + u32::from(*bit);
     }
     all
 }

@@ -25,6 +25,7 @@ pub fn check_strength(t: u8) -> Result<(), Refusal>
 pub fn row_cells<F: Field>(f: &F) -> u8
     ensures { result ≡ units (F.Field.model f.now) }
 {
+    // As `ShiftField::units` of its degree; any field comes here, and the trait asks it for the degree alone.
     u8::MAX >> (8 - f.degree())
 }
 

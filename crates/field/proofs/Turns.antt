@@ -1,5 +1,6 @@
 -- The turns of the loops that multiply, raise to a power and look for an exponent.
-use Rattle.std.proofs.Common.{◌≡◌, ℕ, suc, ◌+◌, ◌-◌, ◌/◌, ◌%◌, ◌^◌, ◌<◌, ◌≤◌, sym, ap, ◌∙◌, add-one, arith}
+use Rattle.std.proofs.Common.{◌≡◌, ℕ, zero, suc, ◌+◌, ◌-◌, ◌/◌, ◌%◌, ◌^◌, ◌<◌, ◌≤◌, fold, sym, ap, ◌∙◌, add-one, arith}
+use Rattle.std.specs.List.{range_with_len}
 use lib.Bits.{bit_xor, xor_assoc, xor_zero_r}
 use Rattle.galois.specs.House.{Fit, house, pick, shift, product}
 use Rattle.galois.specs.Model.{IsExponent, power}
@@ -10,6 +11,11 @@ use Rattle.galois.proofs.Laws.{power-unit}
 pub power-next : (m p : ℕ) → Fit m → shift m (power (house m) p) ≡ power (house m) (p + 1)
 unfolding power
 power-next m p fit = sym (times-two m fit (power (house m) p)) ∙ sym (ap (power (house m)) (add-one p))
+
+-- the number y, times alpha as often as there are items
+pub power-fold : (m k a n p y : ℕ) → Fit m → k + n ≡ p → y ≡ power (house m) k → fold (λ y _. shift m y) y (range_with_len a n) ≡ power (house m) p
+power-fold m k a zero p y fit whole e = let z : k ≡ p = omega arith in e ∙ ap (power (house m)) z
+power-fold m k a (suc n) p y fit whole e = power-fold m (k + 1) _ n p (shift m y) fit (omega arith) (ap (shift m) e ∙ power-next m k fit)
 
 -- one more bit of the left factor
 pub product-next : (m i sum left by : ℕ) → i < m

@@ -56,6 +56,7 @@ pub trait Field {
     fn turned(&self, sums: Syndromes, x: u8) -> Syndromes
         ensures { result ≡ with_turn (model self.now) sums x }
     {
+        // Not `cube`: the fifth power needs the square too.
         let square = self.mul(x, x);
         let cube = self.mul(square, x);
         Syndromes {
@@ -69,11 +70,13 @@ pub trait Field {
     fn syndromes(&self, row: &[u8]) -> Syndromes
         ensures { result ≡ syndromes_of (model self.now) (bit_at 8 row.now) (8 * length row.now) }
     {
+        // Two loops, as a count of all the bits need not fit a usize; and x goes along, as alpha^p for each p would be p products.
         let alpha = self.alpha();
         let mut sums = Syndromes::NONE;
         let mut x = 1;
         for byte in row {
             for i in 0..8u8 {
+                // Not `bit`: it takes a slice and may refuse, and the byte is at hand.
                 if (*byte >> i) % 2 == 1 {
                     sums = self.turned(sums, x);
                 }

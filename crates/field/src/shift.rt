@@ -67,11 +67,7 @@ impl ShiftField {
     pub fn power(&self, p: u8) -> u8
         ensures { result ≡ power (house self.now.m) p }
     {
-        let mut y = 1;
-        for _i in 0..p {
-            y = self.times_alpha(y);
-        }
-        y
+        (0..p).fold(1, |y, _| self.times_alpha(y))
     }
 }
 
@@ -93,10 +89,11 @@ impl Field for ShiftField {
     }
 
     fn mul(&self, a: u8, b: u8) -> u8 {
+        // Three numbers go along: a fold would carry them as a tuple, and be no shorter.
         let mut sum = 0;
         let mut left = self.element(a);
         let mut by = self.element(b);
-        for _i in 0..self.m {
+        for _ in 0..self.m {
             if left % 2 == 1 {
                 sum ^= by;
             }

@@ -11,6 +11,7 @@ pub struct Syndromes {
 }
 
 impl Syndromes {
+    // Not `Default`, which would be public: only this crate starts from no position.
     /// The syndromes of no position.
     pub(crate) const NONE: Syndromes = Syndromes {
         s1: 0,

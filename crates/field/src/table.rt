@@ -31,6 +31,7 @@ impl TableField {
         let mut powers = [0u8; 512];
         let mut exponents = [0u8; 256];
         exponents[0] = n;
+        // One loop for both tables: y, which is alpha^p, is an entry of the one and an index of the other.
         let mut y = 1;
         for p in 0..n {
             powers[usize::from(p)] = y;

@@ -12,7 +12,7 @@ use Rattle.galois.proofs.Least.{Code, code_cells, rows_apart}
 use Rattle.galois.proofs.PowerSums.{power_sum-cong}
 use Rattle.galois.proofs.Tabulated.{length-tabulate, get_or-tabulate, tabulate-cong, tabulate-get_or, drop-tabulate, same_list}
 use Rattle.bch.specs.Steps.{coefficient, register}
-use Rattle.bch.proofs.CodeRows.{Packs, all_cells, coefficient-lt, one_row, register-code}
+use Rattle.bch.proofs.CodeRows.{Packs, row_parts, coefficient-lt, one_row, register-code}
 use Rattle.bch.proofs.Packing.{push_bits}
 use Rattle.tally.specs.Rows.{every, first}
 use Rattle.tally.specs.Fields.{is_code, or_zeros, code_row_of, FieldCode, FieldCodes}
@@ -49,12 +49,7 @@ distance-zero (x ∷ xs) (y ∷ ys) e = ap₂ (λ (z : Bool) (zs : List Bool). z
 bits_from : (f : ℕ → ℕ) (count : ℕ) → ((i : ℕ) → f i < 2) → (d i : ℕ) → i + d ≡ count → (x : ℕ) × ((j : ℕ) → i + j < count → bit_of x j ≡ eqb (f (i + j)) 1)
 bits_from f count h zero i e = (0, λ j l. absurd (omega arith))
 bits_from f count h (suc d) i e =
-    let up = bits_from f count h d (suc i) (omega arith) in
-    let z : suc i - 1 ≡ i = omega arith in (
-      2 * up.0 + f i,
-      subst (λ (q : ℕ). (j : ℕ) → q + j < count → bit_of (2 * up.0 + f q) j ≡ eqb (f (q + j)) 1) z
-          (push_bits f count (suc i) up.0 (omega arith) (h (suc i - 1)) up.1),
-    )
+    let up = bits_from f count h d (i + 1) (omega arith) in (2 * up.0 + f i, push_bits f count i up.0 (h i) up.1)
 
 module _ (F : FieldModel) (l : FieldLaws F) (t : ℕ) (few : Few t) where
   abbrev r : ℕ
@@ -103,7 +98,7 @@ module _ (F : FieldModel) (l : FieldLaws F) (t : ℕ) (few : Few t) where
     exists = (
       tabulate laid_out n,
       listed-code laid_out (register-code F l t few generator.0 generator.1 (cell_of d) laid_out below above),
-      ap (λ m. drop r (tabulate laid_out m)) (sym (all_cells F l t few)) ∙ drop-tabulate laid_out r k
+      ap (λ m. drop r (tabulate laid_out m)) (sym (row_parts F l t few)) ∙ drop-tabulate laid_out r k
           ∙ tabulate-cong (λ j. laid_out (r + j)) (cell_of d) k above
           ∙ ap (tabulate (cell_of d)) (sym long) ∙ tabulate-get_or d false,
     )
@@ -147,7 +142,7 @@ module _ (F : FieldModel) (l : FieldLaws F) (t : ℕ) (few : Few t) where
   dropped_zeros (suc a) b = let z : suc a + b ≡ suc (a + b) = omega arith in ap (λ m. drop (suc a) (replicate m false)) z ∙ dropped_zeros a b
 
   zero_data : data_of F t (replicate n false) ≡ replicate k false
-  zero_data = ap (λ m. drop r (replicate m false)) (sym (all_cells F l t few)) ∙ dropped_zeros r k
+  zero_data = ap (λ m. drop r (replicate m false)) (sym (row_parts F l t few)) ∙ dropped_zeros r k
 
   field_code : FieldCode F t
   field_code = record {

@@ -1,4 +1,4 @@
-use Rattle.std.proofs.Common.{sym, ap, ◌∙◌, subst, ◌+◌, ◌/◌}
+use Rattle.std.proofs.Common.{Ok, sym, ap, ◌∙◌, subst, ◌+◌, ◌/◌}
 use Rattle.bits.specs.Bits.{Buffer}
 use Rattle.galois.specs.Model.{units}
 use Rattle.bch.specs.Calls.{Encoded}
@@ -10,13 +10,12 @@ returns g c =
     let given = c.args.«data».now in
     let before = c.args.row.now in
     let after = c.lay.new.row in
-    let answer = c.lay.result in
     let code = c.in_ok-code.code in
     let e = c.in_ok-code.ensures in
     let n = c.row_cells.ensures ∙ ap (λ f. units (g.F.Field.model f)) (sym e.0) in
-    subst (λ t. Encoded (g.F.Field.model c.args.f.now) t given before after answer) e.1
-    (subst (λ f. Encoded (g.F.Field.model f) code.t given before after answer) e.0
+    subst (λ t. Encoded {U = Unit {0}} (g.F.Field.model c.args.f.now) t given before after (Ok tt)) e.1
+    (subst (λ f. Encoded {U = Unit {0}} (g.F.Field.model f) code.t given before after (Ok tt)) e.0
     (encode-done (g.F.Field.model code.field.now) (g.F.Field.lawful code.field.now) code.t code.few given before after
-    c.generator.result c.remainder.result answer c.lay.ensures.done
+    c.generator.result c.remainder.result tt
     (c.if-row-bytes_for.false ∙ c.bytes_for.ensures ∙ ap (λ n. (n + 7) / 8) n) c.lay.auto.row
-    (subst (λ k. Buffer k given) c.data_cells.ensures c.in_ok-check_buffer.ensures) c.generator.ensures.bits c.remainder.ensures c.lay.ensures.cells))
+    (subst (λ k. Buffer k given) c.data_cells.ensures c.in_ok-check_buffer.ensures) c.generator.ensures.bits c.remainder.ensures c.lay.ensures))

@@ -1,7 +1,5 @@
-use Rattle.std.proofs.Common.{◌≡◌, ℕ, ◌+◌, ◌-◌, ◌^◌, ◌<◌, eqb, get_or}
-use Rattle.bits.specs.Bits.{bit_of}
+use Rattle.bch.proofs.Packing.{Packed}
 use Rattle.bch.proofs.generator.packed.Given as goal
 
-abbrev pub invariant-loop-i : goal.invariant-loop-i
-invariant-loop-i l =
-    (l.all < 2 ^ (l.count - l.i)) × ((j : ℕ) → l.i + j < l.count → bit_of l.all j ≡ eqb (get_or l.g (l.i + j) 0) 1)
+abbrev pub invariant-loop-bit : goal.invariant-loop-bit
+invariant-loop-bit l = Packed l.coefficients l.bit-iterator.iter.rest.now l.all

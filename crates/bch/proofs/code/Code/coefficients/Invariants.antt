@@ -4,11 +4,11 @@ use Rattle.galois.specs.Cosets.{walk}
 use Rattle.bch.specs.Steps.{coefficient}
 use Rattle.bch.proofs.code.Code.coefficients.Given as goal
 
-abbrev pub invariant-loop-d : goal.invariant-loop-d
-invariant-loop-d g l =
+abbrev pub invariant-loop : goal.invariant-loop
+invariant-loop g l =
     let F = g.F.Field.model l.f in
-    (l.first ≡ (walk (units F) l._d).first)
-    × (l.here ≡ (walk (units F) l._d).here)
+    (l.first ≡ (walk (units F) l.counter).first)
+    × (l.here ≡ (walk (units F) l.counter).here)
     × (l.lead ≡ power F l.first)
     × (l.root ≡ power F l.here)
-    × ((i : ℕ) → i < 25 → get_or l.g i 0 ≡ coefficient F l._d i)
+    × ((i : ℕ) → i < 25 → get_or l.g i 0 ≡ coefficient F l.counter i)
