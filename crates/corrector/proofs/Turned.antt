@@ -24,9 +24,9 @@ bits_turn before after p h = record {
 }
 
 -- and by what the call that turned it answers
-pub turn_turns : {U : Type 0} (before after : List ℕ) (p j : ℕ) (r : Result U Refusal) → Changed not before after j r → is_ok r ≡ true → j ≡ p
+pub turn_turns : {U : Type 0} (before after : List ℕ) (p j : ℕ) (r : Result U Refusal) → Changed 8 not before after j r → is_ok r ≡ true → j ≡ p
     → Turns (bit_at 8 before) (bit_at 8 after) p
-turn_turns before after p j (Ok u) (_, h) is e = subst (Turns (bit_at 8 before) (bit_at 8 after)) e (bits_turn before after j h)
+turn_turns before after p j (Ok u) (_, h, _) is e = subst (Turns (bit_at 8 before) (bit_at 8 after)) e (bits_turn before after j h)
 turn_turns before after p j (Err f) h is e = absurd (false≢true is)
 
 module _ (F : FieldModel) (l : FieldLaws F) where

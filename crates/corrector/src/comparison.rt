@@ -8,6 +8,7 @@ use crate::Corrector;
 use crate::copies::padded;
 
 /// Whether two corrections did the same.
+// Two names and no bool: it is public, and a caller and the contracts read from it which answer it is.
 #[derive(Clone, Copy, PartialEq, Eq, Debug)]
 pub enum Agreement {
     Alike,
@@ -40,7 +41,7 @@ pub fn agree<C: Corrector, D: Corrector>(c: &C, d: &D, row: &[u8]) -> Agreement
     }
 }
 
-// Not `first == second` in `agree`: the proof is told that a list holds bytes only where a parameter is one.
+// Not `first == second` in `agree`: of what a call left in a buffer the proof is told the length alone, and of a parameter that it holds bytes.
 fn same_bytes(first: &[u8], second: &[u8]) -> bool
     ensures same { IsTrue result ↔ first.now ≡ second.now }
     ensures bytes { Bytes first.now × Bytes second.now }

@@ -7,7 +7,7 @@ ghost use Rattle.corrector.specs.Searched.{clean, Searches};
 
 use crate::Corrector;
 use crate::copies::padded;
-use bch::row_cells;
+use bch::{check_strength, row_cells};
 use bits::check_buffer;
 use field::{Field, Syndromes};
 use refusal::Refusal;
@@ -44,10 +44,7 @@ impl<F: Field, S: Search> SearchCorrector<F, S> {
     {
         SearchCorrector {
             field,
-            t: match t {
-                1..=3 => t,
-                _ => 1,
-            },
+            t: check_strength(t).map_or(1, |()| t),
             way: PhantomData,
         }
     }
@@ -57,6 +54,8 @@ impl<F: Field, S: Search> Field for SearchCorrector<F, S> {
     ghost model = { λ s. F.Field.model s.field };
 
     ghost lawful = { λ s. F.Field.lawful s.field };
+
+    // A corrector is a field too, and the language has no delegation: each method is handed on by hand.
 
     fn degree(&self) -> u8 {
         self.field.degree()

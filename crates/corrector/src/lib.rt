@@ -13,9 +13,11 @@ use refusal::Refusal;
 
 pub mod comparison;
 mod copies;
+pub mod elements;
 pub mod frame;
 
 pub use comparison::{Agreement, agree, corrections_agree};
+pub use elements::Positions;
 pub use frame::{Search, SearchCorrector, is_clean};
 
 /// A corrector is a field too: it answers its field's questions.

@@ -1,9 +1,8 @@
 //! The corrector itself, and its search: each position whose element is a root of the locator is turned, and the last check is on the
 //! syndromes.
 use crate::locator::{locator_of, value_at};
-use bch::row_cells;
 use bits::turn_bit;
-use corrector::{Search, SearchCorrector, is_clean};
+use corrector::{Positions, Search, SearchCorrector, is_clean};
 use field::{Field, Syndromes};
 
 /// The search by the roots of the error locator.
@@ -17,18 +16,15 @@ impl Search for Roots {
         if is_clean(sums, t) {
             return Some(0);
         }
-        let alpha = f.alpha();
         let lower = locator_of(f, t, sums);
         let mut left = sums;
-        let mut x = 1;
         let mut count = 0u8;
-        for p in 0..row_cells(f) {
+        for (p, x) in Positions::of(f) {
             if value_at(f, sums.s1, lower, x) == 0 {
                 turn_bit(row, usize::from(p)).ok()?;
                 left = f.turned(left, x);
                 count += 1;
             }
-            x = f.mul(alpha, x);
         }
         (count <= t && is_clean(left, t)).then_some(count)
     }

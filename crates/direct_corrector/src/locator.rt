@@ -16,6 +16,7 @@ pub struct Coefficients {
 pub fn locator_of<F: Field>(f: &F, t: u8, sums: Syndromes) -> Coefficients
     ensures { Located (F.Field.model f.now) t sums result }
 {
+    // Not `generic::cube`: the square is used by itself as well.
     let square = f.mul(sums.s1, sums.s1);
     let d2 = f.add(f.mul(square, sums.s1), sums.s3);
     if t == 1 || d2 == 0 {

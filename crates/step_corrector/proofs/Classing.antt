@@ -1,7 +1,8 @@
 -- The class by the list of cases is the class of the syndromes.
-use Rattle.std.proofs.Common.{◌≡◌, ℕ, zero, suc, ◌+◌, ◌≤◌, Bool, true, false, cond, ◌&&◌, eqb, ◌≢◌, [], refl, ap, ◌∙◌, ap₂, arith}
+use Rattle.std.proofs.Common.{◌≡◌, ℕ, zero, suc, ◌+◌, ◌≤◌, Bool, true, false, cond, ◌&&◌, eqb, ◌≢◌, [], sym, refl, ap, ◌∙◌, ap₂, arith, mod-eq_of_lt}
 use Rattle.std.proofs.lemmas.Bool.{false≢true, and_parts, and_from, eqb-true, eq-eqb, ltb-true, lt-ltb}
-use Rattle.galois.specs.Model.{FieldModel, FieldLaws}
+use Rattle.galois.specs.Model.{FieldModel, FieldLaws, elem, product-of}
+use Rattle.galois.proofs.Laws.{elem-lt}
 use Rattle.galois.specs.Ring.{numbers}
 use Rattle.galois.specs.Rows.{Few}
 use Rattle.galois.specs.Sums.{D2, D3}
@@ -56,6 +57,10 @@ class_counts F l (suc (suc (suc zero))) s few =
     by_three (eqb s.s1 0) (eqb s.s3 0) (eqb s.s5 0) _ _
     (λ h. eq-eqb _ 0 (third_none F l s.s1 s.s3 s.s5 (clean-zeros 3 s few h)))
 class_counts F l (suc (suc (suc (suc t)))) s few = absurd (omega arith)
+
+-- a cube is the product of the square, which is an element
+pub cubed : (F : FieldModel) → FieldLaws F → (x : ℕ) → F.mul (product-of F x x) (elem F x) ≡ product-of F (product-of F x x) x
+cubed F l x = ap (λ y. F.mul y (elem F x)) (sym (mod-eq_of_lt (l.ring.mul_lt (elem F x) (elem F x) (elem-lt F l x) (elem-lt F l x))))
 
 -- the determinants as they are computed
 pub listed : (F : FieldModel) (t : ℕ) (s : Syndromes) (k : Class) (b : Bool) (d2 d3 : ℕ) → b ≡ clean t s → k ≡ class_by t b (eqb s.s1 0) (eqb d2 0) (eqb d3 0)

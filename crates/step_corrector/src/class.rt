@@ -6,6 +6,7 @@ ghost use Rattle.corrector.specs.Searched.{Elements};
 ghost use Rattle.step_corrector.specs.Classes.{number, class_by, class_for, falls};
 
 use corrector::is_clean;
+use field::generic::cube;
 use field::{Field, Syndromes};
 
 /// How many errors are shown. `Clean` is a code row; `Beyond` is more than t, or more than can be told.
@@ -31,7 +32,7 @@ pub fn class_of<F: Field>(f: &F, t: u8, sums: Syndromes) -> Class
     ensures listed { Elements (F.Field.model f.now) sums → result ≡ class_for (F.Field.model f.now) t sums }
     ensures counted { Few t → Elements (F.Field.model f.now) sums → number result ≡ class_of (F.Field.model f.now) t sums.s1 sums.s3 sums.s5 }
 {
-    let cube = f.mul(f.mul(sums.s1, sums.s1), sums.s1);
+    let cube = cube(f, sums.s1);
     let d2 = f.add(cube, sums.s3);
     let d3 = f.add(
         f.add(f.mul(cube, d2), f.mul(sums.s1, sums.s5)),

@@ -1,8 +1,7 @@
 //! The corrector itself, and its search: each position is turned on trial, from position 0 on.
 use crate::class::{Class, class_of};
 use crate::trials::{Standing, try_position};
-use bch::row_cells;
-use corrector::{Search, SearchCorrector};
+use corrector::{Positions, Search, SearchCorrector};
 use field::{Field, Syndromes};
 
 /// The search step by step, which adds and multiplies and never divides.
@@ -14,24 +13,21 @@ pub type StepCorrector<F> = SearchCorrector<F, Steps>;
 impl Search for Steps {
     /// Once a row is shown to be beyond t, or to be a code row, no position is tried any more.
     fn search<F: Field>(f: &F, t: u8, sums: Syndromes, row: &mut [u8]) -> Option<u8> {
-        let alpha = f.alpha();
         let mut stands = Standing {
             sums,
             class: class_of(f, t, sums),
         };
-        let mut x = 1;
         let mut count = 0u8;
-        for p in 0..row_cells(f) {
+        for place in Positions::of(f) {
             match stands.class {
                 Class::Clean => return Some(count),
                 Class::Beyond => return None,
                 _ => {}
             }
-            if let Some(kept) = try_position(f, t, &mut *row, usize::from(p), x, stands) {
+            if let Some(kept) = try_position(f, t, &mut *row, place, stands) {
                 stands = kept;
                 count += 1;
             }
-            x = f.mul(alpha, x);
         }
         (stands.class == Class::Clean).then_some(count)
     }

@@ -30,19 +30,19 @@ fn fallen<F: Field>(f: &F, t: u8, before: Standing, x: u8) -> Option<Standing>
     falls_by_one(before.class, class).then_some(Standing { sums, class })
 }
 
-/// Turns a position, whose element is x, on trial. Where the class of the row falls by one the turn is kept, and the answer is how the row stands
+/// Turns a position, given with its element, on trial. Where the class of the row falls by one the turn is kept, and the answer is how the row stands
 /// then; else the row is as it was.
 pub(crate) fn try_position<F: Field>(
     f: &F,
     t: u8,
     row: &mut [u8],
-    position: usize,
-    x: u8,
+    place: (u8, u8),
     before: Standing,
 ) -> Option<Standing>
-    ensures { Tried (F.Field.model f.now) t row.old row.new position x before result }
+    ensures { Tried (F.Field.model f.now) t row.old row.new place.0 place.1 before result }
 {
-    let trial = Trial::new(row, position);
+    let (position, x) = place;
+    let trial = Trial::new(row, usize::from(position));
     let kept = fallen(f, t, before, x)?;
     trial.keep();
     Some(kept)
