@@ -12,6 +12,7 @@ use std::alloc::{AllocError, Global};
 use std::fmt;
 
 /// What came of a command that was not refused.
+// Not `Answer` of `history`: this one is what is printed, so a read has its one byte, and calls printed alike share a variant.
 #[derive(Clone, Copy, PartialEq, Eq, Debug)]
 pub enum Answer {
     /// A row was written, or a run of places knocked.

@@ -22,8 +22,12 @@ fn main(rt: HostRuntime) -> io::Result<()> {
 }
 
 /// Answers each line as soon as it has come, so that the bench may be driven by hand.
-fn serve<C: Corrector, M: Memory>(rt: &HostRuntime, book: &mut Book<C, M>) -> io::Result<()> {
-    let mut input = BufReader::new(rt.alloc(), rt.stdin())?;
+fn serve<C: Corrector, M: Memory>(
+    rt: &(impl Input + Print + AllocGlobal),
+    book: &mut Book<C, M>,
+) -> io::Result<()> {
+    let mut input = BufReader::new(rt.alloc(), rt.reader())?;
+    // A loop that reads to the end is written so: it needs no measure. `split` takes off the newline that `run` needs.
     for _ in 0..u64::MAX {
         // With its newline, which makes an empty line a line to `run`.
         let mut text = Vec::new(rt.alloc());

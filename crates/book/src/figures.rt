@@ -16,14 +16,13 @@ use refusal::Refusal;
 
 impl<C: Corrector, M: Memory> Book<C, M> {
     /// Whether a book of `rows` rows with this reach fits: the reach is at most t, the rows are 1 to 1024 and have room. Refused with 3.
+    // No struct of the figures: a caller gives each of them once, and the public calls keep their form.
     pub fn check(corrector: &C, memory: &M, reach: u8, rows: u32) -> Result<(), Refusal>
         ensures { Checked (FiguresFit (units (C.Field.model corrector.now)) (C.Corrector.strength corrector.now) reach rows (M.Memory.means memory.now).layout.cells) Figures result }
     {
-        if figures_fit(corrector, memory, reach, rows) {
-            Ok(())
-        } else {
-            Err(Refusal::Figures)
-        }
+        figures_fit(corrector, memory, reach, rows)
+            .then_some(())
+            .ok_or(Refusal::Figures)
     }
 
     /// The book over the cells as they are; of no rows where the figures do not fit.
@@ -103,5 +102,5 @@ fn figures_fit<C: Corrector, M: Memory>(corrector: &C, memory: &M, reach: u8, ro
     ensures { result ≡ figures_test (units (C.Field.model corrector.now)) (C.Corrector.strength corrector.now) reach rows (M.Memory.means memory.now).layout.cells }
 {
     let n = u32::from(row_cells(corrector));
-    reach <= corrector.corrects() && rows >= 1 && rows <= 1024 && rows * n <= memory.cells()
+    reach <= corrector.corrects() && (1..=1024).contains(&rows) && rows * n <= memory.cells()
 }

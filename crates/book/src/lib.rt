@@ -11,6 +11,7 @@ mod figures;
 mod row_calls;
 
 /// R rows over the cells of a memory, position j of row r at cell r × n + j.
+// The figures are tested at each call: `open` promises them as given, and t and the cells are told by types of the caller.
 // No impl Model: a BookModel holds functions, which have no code; and a quote of a trait made for it would be no shorter than `meaning`.
 #[derive(Drop)]
 pub struct Book<C, M> {

@@ -39,6 +39,7 @@ impl Case {
 }
 
 /// Whether a row is a multiple of a polynomial of the degree; bit i stands for x^i.
+// `fields_alike` divides by the same loop: two programs share no crate but the libraries, which are what they look at.
 fn is_multiple(row: u16, polynomial: u16, degree: u32) -> bool {
     let mut rest = row;
     for i in (degree..16).rev() {

@@ -40,7 +40,7 @@ pub fn run_command<C: Corrector, M: Memory>(
         }
         Command::Sweep => {
             let counts = book.sweep();
-            // A book has at most 1024 rows, so that the casts lose nothing.
+            // A book has at most 1024 rows, so that the casts lose nothing. No `From`: neither type is of this crate.
             Ok(Answer::Swept {
                 accepted: counts.accepted as u16,
                 refused: counts.refused as u16,

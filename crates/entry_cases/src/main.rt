@@ -15,7 +15,7 @@ fn main(rt: HostRuntime) -> io::Result<()> {
 }
 
 /// Values whose 64-fold lies at a half or just below one, and values at the limits and beyond them.
-fn values(rt: &HostRuntime) -> io::Result<()> {
+fn values(rt: &impl Print) -> io::Result<()> {
     let below_half = 0.49999999999999994 / 64.0;
     let past_limit = 500.0_f64.next_up();
     for value in [
@@ -40,7 +40,7 @@ fn values(rt: &HostRuntime) -> io::Result<()> {
     Ok(())
 }
 
-fn look_ups(rt: &HostRuntime, table: &[i16]) -> io::Result<()> {
+fn look_ups(rt: &impl Print, table: &[i16]) -> io::Result<()> {
     for angle in [0, 16_383, 16_384, 30_000, 65_535] {
         let answer = look_up(table, angle);
         println!(rt; "{table:?} at {angle}: {answer:?}")?;
@@ -56,7 +56,7 @@ fn look_up(table: &[i16], angle: u16) -> Option<i16> {
     Some(blend(entry, next, fraction))
 }
 
-fn bytes(rt: &HostRuntime) -> io::Result<()> {
+fn bytes(rt: &impl Print) -> io::Result<()> {
     for entry in [0, 258, -2, 32_767, -32_768] {
         let stored = to_bytes(entry);
         let read = from_bytes(stored);
@@ -66,7 +66,7 @@ fn bytes(rt: &HostRuntime) -> io::Result<()> {
 }
 
 /// How many of all entries come back from their value in arcseconds, and how many are refused.
-fn way_back(rt: &HostRuntime) -> io::Result<()> {
+fn way_back(rt: &impl Print) -> io::Result<()> {
     let same = (i16::MIN..=i16::MAX)
         .filter(|entry| entry_of(arcseconds(*entry)) == Ok(*entry))
         .count();

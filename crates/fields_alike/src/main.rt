@@ -5,6 +5,7 @@ use field::{Field, ShiftField, TableField};
 use std::io;
 
 /// The product of two polynomials, divided by a third, of degree m: neither shifts and reduces in turn nor looks anything up.
+// `correct_all` divides by the same loop: two programs share no crate but the libraries, which are what they look at.
 fn long_division(a: u8, b: u8, m: u8, divisor: u16) -> u16 {
     let mut rest = (0..8u16)
         .filter(|i| (b >> *i) % 2 == 1)

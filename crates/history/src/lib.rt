@@ -18,6 +18,7 @@ use memory::Memory;
 use refusal::Refusal;
 
 /// A call on a book. A read is one with a buffer of the right length.
+// Not `Command` of `line`: a write borrows a whole row here and holds its one byte there, so one type would be generic at each use.
 #[derive(Clone, Copy)]
 pub enum Call<'a> {
     Write { row: u32, bytes: &'a [u8] },
@@ -28,6 +29,7 @@ pub enum Call<'a> {
 }
 
 /// What a call answered that was not refused.
+// Not `Answer` of `answer`: a read answers with a whole row here, with its one byte there, where what is printed alike is one variant.
 #[derive(Clone, Copy)]
 pub enum Answer {
     Written,

@@ -36,8 +36,7 @@ impl<M: Memory> Memory for Inverter<M> {
     }
 
     fn get(&self, i: u32) -> Result<bool, Refusal> {
-        let v = self.below.get(i)?;
-        Ok(!v)
+        self.below.get(i).map(|v| !v)
     }
 
     fn place(&self, i: u32) -> Result<u32, Refusal> {

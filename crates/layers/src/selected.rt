@@ -28,6 +28,7 @@ pub trait Selection {
         ensures { IsTrue result ↔ Fits self.now n };
 
     /// How many of `n` cells are shown; none where the figures do not fit.
+    // No body here: it would need one more method with a law, for the number where they fit, in place of a line in each impl.
     fn shown(&self, n: u32) -> u32
         ensures { result ≡ size self.now n };
 

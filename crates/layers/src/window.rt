@@ -27,6 +27,7 @@ impl Selection for Stretch {
 
     ghost picks = { λ s n. window_picks s.first s.length n };
 
+    // The test of a run stands where its numbers are: this one refuses figures with 2, `memory` a knock with 9, `rows` a row with 9 after 7.
     fn fits(&self, n: u32) -> bool {
         self.length >= 1 && self.first <= n && self.length <= n - self.first
     }

@@ -23,7 +23,7 @@ fn main(rt: HostRuntime) -> io::Result<()> {
     answers(&rt)
 }
 
-fn answers(rt: &HostRuntime) -> io::Result<()> {
+fn answers(rt: &impl Print) -> io::Result<()> {
     for answer in [
         Ok(Answer::Done),
         Ok(Answer::Read {

@@ -2,6 +2,7 @@
 use crate::trace::{BYTES, Step, interleaver, lent, trace, window};
 use memory::{ByteCells, WordCells};
 
+// Not one function with the next: the figures, the layer and the steps differ, so the loop would take all three and hold nothing.
 pub(crate) fn unfit_windows(rt: &impl Print) -> anyhow::Result<()> {
     for (first, length) in [
         (0, 32),

@@ -1,17 +1,17 @@
 -- An entry put, over plain values.
-use Rattle.std.proofs.Common.{◌≡◌, ℕ, ◌+◌, ◌*◌, ◌/◌, ◌%◌, ◌<◌, ◌≢◌, List, [], ◌∷◌, length, get_or, set, ℤ, Ok, Err, Result, sym, refl, ap, ◌∙◌, subst, ap₂, inr, ⊎_elim, arith}
+use Rattle.std.proofs.Common.{◌≡◌, ℕ, ◌+◌, ◌*◌, ◌/◌, ◌%◌, ◌<◌, ◌≢◌, List, [], ◌∷◌, length, get_or, set, ℤ, Ok, Err, Result, sym, ap, ◌∙◌, subst, ap₂, ⊎_elim, arith}
 use lib.Ieee.{Float}
 use Rattle.std.proofs.lemmas.List.{length-set, get_or-set_same, get_or-set_other}
 use Rattle.refusal.specs.declared.Refusal.{Refusal}
-use Rattle.bits.specs.Bits.{bit_of, Sized, Buffer}
+use Rattle.bits.specs.Bits.{bit_of, Buffer}
 use Rattle.tally.specs.Tally.{read}
 use Rattle.book.specs.Model.{BookModel, rows_of, data_size}
-use Rattle.book.specs.Promised.{ReadCall, WriteCall}
+use Rattle.book.specs.Promised.{WriteCall}
 use Rattle.entry.specs.TwosComplement.{bytes_of, number_of}
-use Rattle.entry.specs.Values.{entry_of, Represents}
+use Rattle.entry.specs.Values.{entry_of}
 use Rattle.table.specs.Model.{per_row, entries_of, row_number, index_in, room, entry_at, changed}
-use Rattle.table.specs.Calls.{Stands, Put}
-use Rattle.table.proofs.Reading.{row_read, entry_lost}
+use Rattle.table.specs.Calls.{Stands, RowRead, Put}
+use Rattle.table.proofs.Reading.{row_read}
 
 module _ (bytes : List ℕ) (x : ℕ) (z : ℤ) where
   pub length-changed : length (changed bytes x z) ≡ length bytes
@@ -51,10 +51,7 @@ module _ (b : BookModel) (E i r x : ℕ) (l : i < entries_of b E) (at : Stands b
   inside : index_in b i < per_row b
   inside = subst (λ (n : ℕ). n < per_row b) at.index at.inside
 
-  pub put-no_row : (U : Type 0) (before bytes : List ℕ) → Sized (data_size b) before → (e : Refusal) (z : ℤ) → Represents v (Ok z) → ReadCall b r before bytes (Err e) → Put {U = U} b b E i v (Err e)
-  put-no_row U before bytes sized e z law call = (inr (l, inr (law.0, entry_lost b E i r x l at before bytes sized e call)), refl)
-
-  module _ (before bytes : List ℕ) (sized : Sized (data_size b) before) (count : ℕ) (z : ℤ) (is : Ok z ≡ entry_of v) (back : number_of (bytes_of z) ≡ z) (call : ReadCall b r before bytes (Ok count)) (b' : BookModel) where
+  module _ (bytes : List ℕ) (count : ℕ) (z : ℤ) (is : Ok z ≡ entry_of v) (back : number_of (bytes_of z) ≡ z) (got : RowRead b r bytes (Ok count)) (b' : BookModel) where
     done : {U : Type 0} (a : Result U Refusal) → WriteCall b b' (row_number b i) (changed bytes (index_in b i) z) a → Put b b' E i v a
     done (Ok u) w = (
       l,
@@ -64,16 +61,16 @@ module _ (b : BookModel) (E i r x : ℕ) (l : i < entries_of b E) (at : Stands b
         record {
           bytes = bytes;
           count = count;
-          got = row_read b E i r x l at before bytes sized (Ok count) call;
+          got = row_read b E i r x l at bytes (Ok count) got;
           wrote = w;
-          here = same_entry bytes (index_in b i) z (omega (arith, inside, call.done.2.sized)) back;
+          here = same_entry bytes (index_in b i) z (omega (arith, inside, got.call.done.2.sized)) back;
           others = other_entry bytes (index_in b i) z;
           history = λ h led. w.history (read (row_number b i) (room b) ∷ h) led;
         },
       ),
     )
     done (Err e) w =
-        let buffer = buffer_changed bytes (index_in b i) z (data_size b) inside call.done.2 in
+        let buffer = buffer_changed bytes (index_in b i) z (data_size b) inside got.call.done.2 in
         absurd
         (⊎_elim (λ bad. bad.0 there)
         (λ one. ⊎_elim (λ bad. bad.0 buffer.sized) (λ two. ⊎_elim (λ bad. bad.0 buffer.unused) (λ never. never.1) two.1) one.1)

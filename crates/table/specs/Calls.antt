@@ -1,5 +1,5 @@
 -- What each call of a table answers and leaves: b is the book beneath it, E the number of entries that it was made with.
-use Rattle.std.specs.Prelude.{◌≡◌, ℕ, ◌+◌, ◌*◌, ◌/◌, ◌%◌, ◌<◌, ◌≤◌, true, ◌≢◌, ◌⊎◌, List, ◌∷◌, ℤ, Ok, Err, Result, Float}
+use Rattle.std.specs.Prelude.{◌≡◌, ℕ, ◌+◌, ◌*◌, ◌/◌, ◌%◌, ◌<◌, ◌≤◌, true, ◌≢◌, ◌⊎◌, List, ◌∷◌, take, ℤ, Ok, Err, Result, Float}
 use Rattle.refusal.specs.declared.Refusal.{Refusal}
 use Rattle.refusal.specs.Order.{Unless}
 use Rattle.refusal.specs.declared.Refusal.TheVariants.{Entry, Value, NoCodeRow}
@@ -32,6 +32,11 @@ pub record RowRead (b : BookModel) (r : ℕ) (bytes : List ℕ) (x : Result ℕ 
   pub before : List ℕ
   pub sized : Sized (data_size b) before
   pub call : ReadCall b r before bytes x
+
+-- READING a row: its data, which stand in the first bytes of a buffer that may be longer
+abbrev pub RowHeld : BookModel → ℕ → Result (List ℕ) Refusal → Type 0
+RowHeld b r (Ok buffer) = (count : ℕ) × RowRead b r (take (room b) buffer) (Ok count)
+RowHeld b r (Err e) = (bytes : List ℕ) × RowRead b r bytes (Err e)
 
 -- entry i as a read of its row gives it; refused where the read is, which is only where no code row is near enough
 abbrev pub EntryRead : BookModel → ℕ → Result ℤ Refusal → Type 0

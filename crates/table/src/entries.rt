@@ -3,7 +3,7 @@ ghost use Rattle.std.specs.Prelude.{◌≡◌, ◌<◌};
 ghost use Rattle.book.specs.Meaning.{meaning, Kept};
 ghost use Rattle.book.specs.Model.{BookModel};
 ghost use Rattle.table.specs.Model.{entries_of};
-ghost use Rattle.table.specs.Calls.{EntryGot, Got, Put, LookedUp, ReadLeads, angle_index};
+ghost use Rattle.table.specs.Calls.{EntryGot, Got, Put, LookedUp, ReadLeads, RowHeld, angle_index};
 ghost use Rattle.entry.specs.Interpolation.{next_index};
 
 use crate::Table;
@@ -34,9 +34,8 @@ impl<C: Corrector, M: Memory> Table<C, M> {
     {
         let (row, index) = self.place(i)?;
         let entry = entry_of(value)?;
-        let mut buffer = [0u8; 32]; // no heap: room for the data of any row
+        let mut buffer = self.read_row(row)?;
         let bytes = &mut buffer[..bytes_for(self.book.data_cells())];
-        self.book.read(row, bytes)?;
         set_entry_at(bytes, index, entry);
         self.book.write(row, bytes)
     }
@@ -47,7 +46,7 @@ impl<C: Corrector, M: Memory> Table<C, M> {
         ensures call { LookedUp (meaning C.Field C.Corrector.own M.Memory self.now.book) (entries_of (meaning C.Field C.Corrector.own M.Memory self.now.book) self.now.entries) angle result }
         ensures history { ReadLeads (meaning C.Field C.Corrector.own M.Memory self.now.book) (angle_index angle (entries_of (meaning C.Field C.Corrector.own M.Memory self.now.book) self.now.entries)) × ReadLeads (meaning C.Field C.Corrector.own M.Memory self.now.book) (next_index (angle_index angle (entries_of (meaning C.Field C.Corrector.own M.Memory self.now.book) self.now.entries)) (entries_of (meaning C.Field C.Corrector.own M.Memory self.now.book) self.now.entries)) }
     {
-        let entries = self.entries() as u16;
+        let entries = self.entries() as u16; // at most 1024, which `entries` ensures: the cast loses nothing
         let position = locate(angle, entries);
         let entry = self.entry(u32::from(position.index))?;
         let next = self.entry(u32::from(next_index(position.index, entries)))?;
@@ -59,9 +58,17 @@ impl<C: Corrector, M: Memory> Table<C, M> {
         ensures { EntryGot (meaning C.Field C.Corrector.own M.Memory self.now.book) self.now.entries i result }
     {
         let (row, place) = self.place(i)?;
-        let mut buffer = [0u8; 32];
+        let buffer = self.read_row(row)?;
+        Ok(entry_at(&buffer, place))
+    }
+
+    /// The data of a row, in the first bytes. Refused as the book's read of it is.
+    fn read_row(&self, row: u32) -> Result<[u8; 32], Refusal>
+        ensures { RowHeld (meaning C.Field C.Corrector.own M.Memory self.now.book) row result }
+    {
+        let mut buffer = [0u8; 32]; // no heap: room for the data of any row
         let bytes = &mut buffer[..bytes_for(self.book.data_cells())];
         self.book.read(row, bytes)?;
-        Ok(entry_at(bytes, place))
+        Ok(buffer)
     }
 }

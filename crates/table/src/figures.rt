@@ -18,11 +18,9 @@ impl<C: Corrector, M: Memory> Table<C, M> {
     pub fn check(book: &Book<C, M>, entries: u32) -> Result<(), Refusal>
         ensures { Checked (EntriesFit (meaning C.Field C.Corrector.own M.Memory book.now) entries) Entry result }
     {
-        if entries_fit(book, entries) {
-            Ok(())
-        } else {
-            Err(Refusal::Entry)
-        }
+        entries_fit(book, entries)
+            .then_some(())
+            .ok_or(Refusal::Entry)
     }
 
     /// The table over the rows as they are; of no entries where their number does not fit.
@@ -80,5 +78,5 @@ fn per_row<C: Corrector, M: Memory>(book: &Book<C, M>) -> u32
 fn entries_fit<C: Corrector, M: Memory>(book: &Book<C, M>, entries: u32) -> bool
     ensures { result ≡ entries_test (meaning C.Field C.Corrector.own M.Memory book.now) entries }
 {
-    entries >= 1 && entries <= 1024 && entries <= book.rows() * per_row(book)
+    (1..=1024).contains(&entries) && entries <= book.rows() * per_row(book)
 }

@@ -6,6 +6,7 @@ ghost use Rattle.table.specs.Model.{entry_at, changed};
 use entry::{from_bytes, to_bytes};
 
 /// The entry at an index of a row's data.
+// The place of its two bytes stands in both functions: `chunks_exact(2).nth(..)` gives an Option of a slice, opened in each.
 pub(crate) fn entry_at(bytes: &[u8], index: u32) -> i16
     requires { 2 * index + 1 < length bytes.now }
     ensures { result ≡ entry_at bytes.now index }
