@@ -17,6 +17,7 @@ pub fn run_command<C: Corrector, M: Memory>(
     ensures kept { Kept book.old book.new }
     ensures call { Made (meaning C.Field C.Corrector.own M.Memory book.old) (meaning C.Field C.Corrector.own M.Memory book.new) command result }
 {
+    // A match on values and no closures: a command is what a line spells, and a contract names it.
     match command {
         Command::Write { row, byte } => {
             book.write(row, &[byte])?;

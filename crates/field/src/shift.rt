@@ -18,9 +18,10 @@ impl ShiftField {
     pub fn new(m: u8) -> Self
         ensures { Taken m result.m }
     {
-        match check_degree(m) {
-            Ok(()) => ShiftField { m },
-            Err(_) => ShiftField { m: 4 },
+        if check_degree(m).is_ok() {
+            ShiftField { m }
+        } else {
+            ShiftField { m: 4 }
         }
     }
 

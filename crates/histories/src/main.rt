@@ -27,6 +27,7 @@ fn data_of(alloc: Global, row: u32, k: u8) -> Result<Vec<u8>, AllocError> {
 }
 
 /// Makes a call and prints it with its answer.
+// By hand and no derived Debug: the stored text has each call as a line of its own form.
 fn trace<C: Corrector, M: Memory>(
     rt: &impl Print,
     book: &mut Book<C, M>,

@@ -51,6 +51,7 @@ pub fn make<C: Corrector, M: Memory>(
     ensures made { Made (meaning C.Field C.Corrector.own M.Memory book.old) (meaning C.Field C.Corrector.own M.Memory book.new) call.entry result }
     ensures history { Leads (call_of (data_size (meaning C.Field C.Corrector.own M.Memory book.old)) call.entry) (meaning C.Field C.Corrector.own M.Memory book.old) (meaning C.Field C.Corrector.own M.Memory book.new) }
 {
+    // A match on values and no closures: lists of calls are replayed, and a theorem speaks of every list.
     match call {
         Call::Write { row, bytes } => book.write(row, bytes).map(|()| Answer::Written),
         Call::Read { row } => read_out(book, row),

@@ -49,6 +49,7 @@ pub trait Memory {
         ensures { Put (means self.old) (means self.new) i v result };
 
     /// Turns exactly the cells at the `length` places from `from` on.
+    // Two numbers and no range: any two are taken, and refused where they pass P, with no sum of them that may wrap.
     fn knock(&mut self, from: u32, length: u32) -> Result<(), Refusal>
         ensures { Knocked (means self.old) (means self.new) from length result };
 }

@@ -20,6 +20,7 @@ pub(crate) const WORDS: [u32; 2] = [0x8000_0001, 0x0f0f_1234];
 /// How many cells and places a line shows at most.
 const SHOWN: u32 = 40;
 
+// Not one function with the interleaver's below: each would take what it prints, tests and makes as three closures more.
 pub(crate) fn window<M: Memory + Drop>(
     rt: &impl Print,
     below: M,
@@ -63,6 +64,7 @@ pub(crate) fn trace<M: Memory>(rt: &impl Print, m: &mut M, steps: &[Step]) -> an
     println!(rt; "")?;
     cells(rt, m)?;
     for step in steps {
+        // A match on values and no closures: a step is printed before it is made.
         match *step {
             Step::Put(i, v) => {
                 print!(rt; "  put {i} {}", u8::from(v))?;
