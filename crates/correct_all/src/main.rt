@@ -39,7 +39,7 @@ impl Case {
 }
 
 /// Whether a row is a multiple of a polynomial of the degree; bit i stands for x^i.
-// `fields_alike` divides by the same loop: two programs share no crate but the libraries, which are what they look at.
+// `fields_alike` divides by the same loop: a crate for both would rest on no library, and be no shorter than the loop.
 fn is_multiple(row: u16, polynomial: u16, degree: u32) -> bool {
     let mut rest = row;
     for i in (degree..16).rev() {

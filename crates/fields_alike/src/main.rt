@@ -5,7 +5,7 @@ use field::{Field, ShiftField, TableField};
 use std::io;
 
 /// The product of two polynomials, divided by a third, of degree m: neither shifts and reduces in turn nor looks anything up.
-// `correct_all` divides by the same loop: two programs share no crate but the libraries, which are what they look at.
+// `correct_all` divides by the same loop: a crate for both would rest on no library, and be no shorter than the loop.
 fn long_division(a: u8, b: u8, m: u8, divisor: u16) -> u16 {
     let mut rest = (0..8u16)
         .filter(|i| (b >> *i) % 2 == 1)
@@ -27,6 +27,7 @@ fn bytes_with<P: Fn(u8) -> bool>(property: P) -> usize
 }
 
 /// How many pairs of bytes have a property.
+// Not one function with the bytes' above: a property of pairs takes two arguments.
 fn pairs_with<P: Fn(u8, u8) -> bool>(property: P) -> usize
     requires { P.IsAlwaysCallable property }
 {
@@ -43,9 +44,8 @@ fn compare(rt: &impl Print, m: u8, divisor: u16) -> io::Result<()> {
     let fast = TableField::new(m);
     let sums = pairs_with(|a, b| slow.add(a, b) == fast.add(a, b));
     let products = pairs_with(|a, b| slow.mul(a, b) == fast.mul(a, b));
-    let low = u8::MAX >> (8 - fast.degree());
     let divisions = pairs_with(|a, b| {
-        long_division(a & low, b & low, m, divisor) == u16::from(fast.mul(a, b))
+        long_division(slow.element(a), slow.element(b), m, divisor) == u16::from(fast.mul(a, b))
     });
     let inverses = bytes_with(|a| slow.inverse(a) == fast.inverse(a));
     let exponents = bytes_with(|a| slow.exponent(a) == fast.exponent(a));

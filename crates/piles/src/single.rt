@@ -1,6 +1,8 @@
 //! The three bottoms, and each layer over each of them.
 use crate::trace::{BYTES, Step, WORDS, interleaver, inverter, lent, trace, window};
-use memory::{BuiltInCells, ByteCells, WordCells};
+use bits::Element;
+use memory::{BuiltInCells, ByteCells, LentCells, WordCells};
+use std::fmt::Display;
 
 pub(crate) fn bottoms(rt: &impl Print) -> anyhow::Result<()> {
     let steps = [
@@ -22,63 +24,74 @@ pub(crate) fn bottoms(rt: &impl Print) -> anyhow::Result<()> {
     trace(rt, &mut BuiltInCells::new(), &steps)
 }
 
+/// Figures of a layer and the steps that are made on it.
+type Pile<'a> = (u32, u32, &'a [Step]);
+
+/// A window, an interleaver and an inverter over a lent slice, which is shown after each.
+fn over_lent<E: Element + Display + Drop>(
+    rt: &impl Print,
+    elements: &mut [E],
+    (first, length, window_steps): Pile<'_>,
+    (depth, width, interleaver_steps): Pile<'_>,
+    inverter_steps: &[Step],
+) -> anyhow::Result<()> {
+    window(rt, LentCells::new(elements), first, length, window_steps)?;
+    lent(rt, elements)?;
+    interleaver(
+        rt,
+        LentCells::new(elements),
+        depth,
+        width,
+        interleaver_steps,
+    )?;
+    lent(rt, elements)?;
+    inverter(rt, LentCells::new(elements), inverter_steps)?;
+    lent(rt, elements)
+}
+
 pub(crate) fn over_bytes(rt: &impl Print) -> anyhow::Result<()> {
     println!(rt; "over bytes")?;
     let mut bytes = BYTES;
-    window(
+    over_lent(
         rt,
-        ByteCells::new(&mut bytes),
-        5,
-        20,
-        &[Step::Put(0, false), Step::Put(20, true), Step::Knock(3, 4)],
-    )?;
-    lent(rt, &bytes)?;
-    interleaver(
-        rt,
-        ByteCells::new(&mut bytes),
-        2,
-        8,
-        &[Step::Put(9, true), Step::Knock(0, 4), Step::Knock(30, 2)],
-    )?;
-    lent(rt, &bytes)?;
-    inverter(
-        rt,
-        ByteCells::new(&mut bytes),
+        &mut bytes,
+        (
+            5,
+            20,
+            &[Step::Put(0, false), Step::Put(20, true), Step::Knock(3, 4)],
+        ),
+        (
+            2,
+            8,
+            &[Step::Put(9, true), Step::Knock(0, 4), Step::Knock(30, 2)],
+        ),
         &[
             Step::Put(9, true),
             Step::Put(0, false),
             Step::Knock(0, 4),
             Step::Put(32, true),
         ],
-    )?;
-    lent(rt, &bytes)
+    )
 }
 
 pub(crate) fn over_words(rt: &impl Print) -> anyhow::Result<()> {
     println!(rt; "over words")?;
     let mut words = WORDS;
-    window(
+    over_lent(
         rt,
-        WordCells::new(&mut words),
-        30,
-        10,
-        &[Step::Put(9, true), Step::Knock(31, 3), Step::Put(10, true)],
-    )?;
-    lent(rt, &words)?;
-    interleaver(
-        rt,
-        WordCells::new(&mut words),
-        4,
-        8,
-        &[Step::Put(63, true), Step::Put(8, true), Step::Knock(28, 8)],
-    )?;
-    lent(rt, &words)?;
-    inverter(
-        rt,
-        WordCells::new(&mut words),
+        &mut words,
+        (
+            30,
+            10,
+            &[Step::Put(9, true), Step::Knock(31, 3), Step::Put(10, true)],
+        ),
+        (
+            4,
+            8,
+            &[Step::Put(63, true), Step::Put(8, true), Step::Knock(28, 8)],
+        ),
         &[Step::Put(0, true), Step::Put(1, false), Step::Knock(60, 4)],
-    )?;
-    lent(rt, &words)
+    )
 }
 
 pub(crate) fn over_built_in(rt: &impl Print) -> anyhow::Result<()> {

@@ -20,7 +20,7 @@ pub(crate) const WORDS: [u32; 2] = [0x8000_0001, 0x0f0f_1234];
 /// How many cells and places a line shows at most.
 const SHOWN: u32 = 40;
 
-// Not one function with the interleaver's below: each would take what it prints, tests and makes as three closures more.
+// Not one function over any selection: what is shown here and below is `check` and `new` of each layer.
 pub(crate) fn window<M: Memory + Drop>(
     rt: &impl Print,
     below: M,
