@@ -30,7 +30,7 @@ clean-zeros (suc (suc (suc zero))) s few h =
     (eqb-true _ 0 a.0, λ z. eqb-true _ 0 a.1, λ z. eqb-true _ 0 (and_parts _ _ h).1)
 clean-zeros (suc (suc (suc (suc t)))) s few h = absurd (omega arith)
 
-zeros_clean : (t : ℕ) (s : Syndromes) → Few t → Zeros t s.s1 s.s3 s.s5 → clean t s ≡ true
+pub zeros_clean : (t : ℕ) (s : Syndromes) → Few t → Zeros t s.s1 s.s3 s.s5 → clean t s ≡ true
 zeros_clean zero s few z = absurd (omega arith)
 zeros_clean (suc zero) s few z = and_from _ _ (and_from _ _ (eq-eqb _ 0 z.0) refl) refl
 zeros_clean (suc (suc zero)) s few z = and_from _ _ (and_from _ _ (eq-eqb _ 0 z.0) (eq-eqb _ 0 (z.1 (omega arith)))) refl
@@ -42,7 +42,7 @@ module _ (F : FieldModel) (t : ℕ) (few : Few t) (c : ℕ → Bool) (s : Syndro
   pub clean-code : clean t s ≡ true → Code F t c
   clean-code h = zeros_code F t few c (clean-zeros t (syndromes_of F c (units F)) few (ap (clean t) (sym es) ∙ h))
 
-  code_clean : Code F t c → clean t s ≡ true
+  pub code_clean : Code F t c → clean t s ≡ true
   code_clean code = ap (clean t) es ∙ zeros_clean t (syndromes_of F c (units F)) few (code_zeros F t few c code)
 
   pub not_clean : clean t s ≡ false → Code F t c → ⊥
@@ -61,11 +61,11 @@ module _ (F : FieldModel) (l : FieldLaws F) where
   bits_of : 8 * ((units F + 7) / 8) ≡ units F + 1
   bits_of = each (λ m. 8 * ((2 ^ m - 1 + 7) / 8) ≡ 2 ^ m - 1 + 1) refl refl refl refl refl F.m (l.low, l.high)
 
-  buffer_bits : (row : List ℕ) → Sized (units F) row → 8 * length row ≡ units F + 1
+  pub buffer_bits : (row : List ℕ) → Sized (units F) row → 8 * length row ≡ units F + 1
   buffer_bits row sized = ap (λ k. 8 * k) sized ∙ bits_of
 
   -- the syndromes of the buffer are those of the row: the one bit past it is not set
-  row_sums : (row : List ℕ) → Buffer (units F) row → syndromes_of F (bit_at 8 row) (8 * length row) ≡ syndromes_of F (bit_at 8 row) (units F)
+  pub row_sums : (row : List ℕ) → Buffer (units F) row → syndromes_of F (bit_at 8 row) (8 * length row) ≡ syndromes_of F (bit_at 8 row) (units F)
   row_sums row b =
       let z = buffer_bits row b.sized in
       ap (syndromes_of F (bit_at 8 row)) z ∙ sym (sums_clear F l (bit_at 8 row) (units F) (b.unused (units F) (omega arith) (omega arith)))
@@ -76,7 +76,7 @@ module _ (F : FieldModel) (l : FieldLaws F) where
       buffer : Buffer (units F) row
       buffer = subst (λ k. Buffer k row) en admitted
 
-      all_sums : (s : Syndromes) → s ≡ syndromes_of F (bit_at 8 row) (8 * length row) → s ≡ syndromes_of F (bit_at 8 row) (units F)
+      pub all_sums : (s : Syndromes) → s ≡ syndromes_of F (bit_at 8 row) (8 * length row) → s ≡ syndromes_of F (bit_at 8 row) (units F)
       all_sums s es = es ∙ row_sums row buffer
 
       pub already : (s : Syndromes) → Few t → s ≡ syndromes_of F (bit_at 8 row) (8 * length row) → clean t s ≡ true → Corrected F t row row (Ok 0)

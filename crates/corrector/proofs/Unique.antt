@@ -29,7 +29,7 @@ two a b ha hb e = grind (arith, nat_tests)
 abbrev pub SameBits : List ℕ → List ℕ → Type 0
 SameBits a b = (j : ℕ) → bit_at 8 a j ≡ bit_at 8 b j
 
-same_byte : (a b : List ℕ) (i : ℕ) → SameBits a b → get_or a i 0 < 256 → get_or b i 0 < 256 → get_or a i 0 ≡ get_or b i 0
+pub same_byte : (a b : List ℕ) (i : ℕ) → SameBits a b → get_or a i 0 < 256 → get_or b i 0 < 256 → get_or a i 0 ≡ get_or b i 0
 same_byte a b i same ha hb =
     same_from_bits_below 8 (get_or a i 0) (get_or b i 0) ha hb
     (λ j lt. two _ _ (omega arith) (omega arith) (sym (at a j lt) ∙ same (8 * i + j) ∙ at b j lt))
@@ -70,7 +70,7 @@ refusals_meet P Q R e f (inr (a, inr (c, inl p))) (inr (b, inr (d, inl q))) = p.
 refusals_meet P Q R e f (inr (a, inr (c, inl p))) (inr (b, inr (d, inr q))) = absurd q.1
 refusals_meet P Q R e f (inr (a, inr (c, inr p))) (inr (b, inr q)) = absurd p.1
 
-corrections-meet : (F : FieldModel) → FieldLaws F → (t : ℕ) (before first second : List ℕ) (r s : Result ℕ Refusal) → Corrected F t before first r
+pub corrections-meet : (F : FieldModel) → FieldLaws F → (t : ℕ) (before first second : List ℕ) (r s : Result ℕ Refusal) → Corrected F t before first r
     → Corrected F t before second s → (r ≡ s) × SameBits first second × (length first ≡ length second)
 corrections-meet F l t before first second (Ok r) (Ok s) (a, b, near, er) (c, d, far, es) =
     let n = units F in

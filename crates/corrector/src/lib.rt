@@ -18,7 +18,7 @@ pub mod frame;
 
 pub use comparison::{Agreement, agree, corrections_agree};
 pub use elements::Positions;
-pub use frame::{Search, SearchCorrector, is_clean};
+pub use frame::{Search, SearchCorrector, SearchMethod, correct_row, is_clean};
 
 /// A corrector is a field too: it answers its field's questions.
 pub trait Corrector: Field {

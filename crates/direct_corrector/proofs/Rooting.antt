@@ -69,13 +69,13 @@ module _ (F : FieldModel) (l : FieldLaws F) (t : ℕ) (few : Few t) (start : Lis
       }
 
   module _ (row : List ℕ) (p count : ℕ) (left : Syndromes) (K : Known F t start row p count left) (end : p ≡ units F) where
-    known_found : count ≤ t → clean t left ≡ true → Searched F t start row (Some count)
+    pub known_found : count ≤ t → clean t left ≡ true → Searched F t start row (Some count)
     known_found le h =
         let near = found-near F t (bit_at 8 start) (bit_at 8 row) count
         (track_found F t (bit_at 8 start) (bit_at 8 row) p count K.track (clean-code F t few (bit_at 8 row) left K.sums h) le) in
         (near.0, near.1, λ j u. K.track.later j (omega arith))
 
-    known_none : clean t left ≡ false → Searched F t start row None
+    pub known_none : clean t left ≡ false → Searched F t start row None
     known_none h =
         none_near F t (bit_at 8 start)
         (track_none F t (bit_at 8 start) (bit_at 8 row) p count end K.track (not_clean F t few (bit_at 8 row) left K.sums h))

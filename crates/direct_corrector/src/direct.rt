@@ -2,7 +2,7 @@
 //! syndromes.
 use crate::locator::{locator_of, value_at};
 use bits::turn_bit;
-use corrector::{Positions, Search, SearchCorrector, is_clean};
+use corrector::{Positions, SearchCorrector, SearchMethod, is_clean};
 use field::{Field, Syndromes};
 
 /// The search by the roots of the error locator.
@@ -11,7 +11,7 @@ pub struct Roots;
 /// Corrects up to t errors by the roots of the error locator, in any field.
 pub type DirectCorrector<F> = SearchCorrector<F, Roots>;
 
-impl Search for Roots {
+impl SearchMethod for Roots {
     fn search<F: Field>(f: &F, t: u8, sums: Syndromes, row: &mut [u8]) -> Option<u8> {
         if is_clean(sums, t) {
             return Some(0);

@@ -81,7 +81,7 @@ module _ (F : FieldModel) (l : FieldLaws F) (t : ℕ) (few : Few t) where
         (steps_found F l t few (bit_at 8 start) (bit_at 8 row) p count (number now.class) K.steps (ap number e)) in
         (near.0, near.1, λ j h. K.steps.track.later j (omega arith))
 
-    known_none : p ≡ units F → (now.class ≡ Clean → ⊥) → Searched F t start row None
+    pub known_none : p ≡ units F → (now.class ≡ Clean → ⊥) → Searched F t start row None
     known_none e n =
         none_near F t (bit_at 8 start)
         (steps_none F l t few (bit_at 8 start) (bit_at 8 row) p count (number now.class) e K.steps (not_clean now.class n))

@@ -1,7 +1,7 @@
 //! The corrector itself, and its search: each position is turned on trial, from position 0 on.
 use crate::class::{Class, class_of};
 use crate::trials::{Standing, try_position};
-use corrector::{Positions, Search, SearchCorrector};
+use corrector::{Positions, SearchCorrector, SearchMethod};
 use field::{Field, Syndromes};
 
 /// The search step by step, which adds and multiplies and never divides.
@@ -10,7 +10,7 @@ pub struct Steps;
 /// Corrects up to t errors by adding and multiplying in any field.
 pub type StepCorrector<F> = SearchCorrector<F, Steps>;
 
-impl Search for Steps {
+impl SearchMethod for Steps {
     /// Once a row is shown to be beyond t, or to be a code row, no position is tried any more.
     fn search<F: Field>(f: &F, t: u8, sums: Syndromes, row: &mut [u8]) -> Option<u8> {
         let mut stands = Standing {

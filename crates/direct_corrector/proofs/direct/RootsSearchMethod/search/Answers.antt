@@ -2,8 +2,8 @@ use Rattle.std.proofs.Common.{◌≡◌, false, refl, sym, rules, arith}
 use Rattle.bch.proofs.Counts.{units_lt}
 use Rattle.corrector.proofs.Turned.{turn_turns}
 use Rattle.direct_corrector.proofs.Rooting.{known_start, known_clean, known_turn, known_leave, known_checked, known_many}
-use Rattle.direct_corrector.proofs.direct.RootsSearch.search.Goals as goal
-use Rattle.direct_corrector.proofs.direct.RootsSearch.search.Goals.{then-count-t, else-count-t}
+use Rattle.direct_corrector.proofs.direct.RootsSearchMethod.search.Goals as goal
+use Rattle.direct_corrector.proofs.direct.RootsSearchMethod.search.Goals.{then-count-t, else-count-t}
 
 pub returns-then-is_clean : goal.returns-then-is_clean
 returns-then-is_clean g c = λ few _ es.

@@ -2,7 +2,7 @@ use Rattle.std.proofs.Common.{◌*◌, ◌<◌, length, refl, rules, arith}
 use Rattle.bits.specs.Bits.{Buffer}
 use Rattle.galois.specs.Model.{units}
 use Rattle.step_corrector.proofs.Stepping.{known_start, known_turn, known_leave, known_found, known_checked, known_beyond}
-use Rattle.step_corrector.proofs.stepwise.StepsSearch.search.Goals as goal
+use Rattle.step_corrector.proofs.stepwise.StepsSearchMethod.search.Goals as goal
 
 pub loop-place-init : goal.loop-place-init
 loop-place-init g c =

@@ -4,7 +4,7 @@ use Rattle.galois.specs.Model.{units}
 use Rattle.galois.specs.Rows.{Few}
 use Rattle.field.specs.Syndromes.{syndromes_of}
 use Rattle.step_corrector.proofs.Stepping.{Known}
-use Rattle.step_corrector.proofs.stepwise.StepsSearch.search.Given as goal
+use Rattle.step_corrector.proofs.stepwise.StepsSearchMethod.search.Given as goal
 
 abbrev pub invariant-loop-place : goal.invariant-loop-place
 invariant-loop-place g l =

@@ -4,7 +4,7 @@ use Rattle.galois.specs.Model.{units}
 use Rattle.galois.specs.Rows.{Few}
 use Rattle.field.specs.Syndromes.{syndromes_of}
 use Rattle.direct_corrector.proofs.Rooting.{Known}
-use Rattle.direct_corrector.proofs.direct.RootsSearch.search.Given as goal
+use Rattle.direct_corrector.proofs.direct.RootsSearchMethod.search.Given as goal
 
 abbrev pub invariant-loop-p : goal.invariant-loop-p
 invariant-loop-p g l =
