@@ -10,7 +10,7 @@ use field::TableField;
 use layers::{Interleaver, Window};
 use memory::{BuiltInCells, Memory};
 use std::io;
-use std::io::{BufRead, BufReader};
+use std::io::{BufRead, BufReader, Read};
 use step_corrector::StepCorrector;
 
 fn main(rt: HostRuntime) -> io::Result<()> {
@@ -18,15 +18,16 @@ fn main(rt: HostRuntime) -> io::Result<()> {
     let window = Window::new(BuiltInCells::new(), 0, 30);
     let memory = Interleaver::new(window, 2, 15);
     let mut book = Book::blank(corrector, memory, 2, 2);
-    serve(&rt, &mut book)
+    serve(&rt, rt.stdin(), &mut book)
 }
 
 /// Answers each line as soon as it has come, so that the bench may be driven by hand.
 fn serve<C: Corrector, M: Memory>(
-    rt: &(impl Input + Print + AllocGlobal),
+    rt: &(impl Print + AllocGlobal),
+    input: impl Read + Drop,
     book: &mut Book<C, M>,
 ) -> io::Result<()> {
-    let mut input = BufReader::new(rt.alloc(), rt.reader())?;
+    let mut input = BufReader::new(rt.alloc(), input)?;
     // A loop that reads to the end is written so: it needs no measure. `split` takes off the newline that `run` needs.
     for _ in 0..u64::MAX {
         // With its newline, which makes an empty line a line to `run`.

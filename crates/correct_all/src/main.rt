@@ -6,12 +6,14 @@ use corrector::{Agreement, Corrector, agree};
 use direct_corrector::DirectCorrector;
 use field::{ShiftField, TableField};
 use refusal::Refusal;
-use std::alloc::{AllocError, Global};
 use std::io;
 use step_corrector::StepCorrector;
 
 /// How many rows of 15 cells there are.
 const ROWS: u16 = 32768;
+
+/// How many code rows there are at most.
+const MOST: usize = 2048;
 
 /// A row, and the code row nearest to it.
 #[derive(Clone, Copy)]
@@ -39,7 +41,7 @@ impl Case {
 }
 
 /// Whether a row is a multiple of a polynomial of the degree; bit i stands for x^i.
-// `fields_alike` divides by the same loop: a crate for both would rest on no library, and be no shorter than the loop.
+// `fields_alike` divides by such a loop: a crate for both would rest on no library, and be no shorter than the loop.
 fn is_multiple(row: u16, polynomial: u16, degree: u32) -> bool {
     let mut rest = row;
     for i in (degree..16).rev() {
@@ -50,17 +52,16 @@ fn is_multiple(row: u16, polynomial: u16, degree: u32) -> bool {
     rest == 0
 }
 
-/// Every row beside the nearest multiple of the generator of the degree, in the order of the rows.
-fn cases(alloc: Global, generator: u16, degree: u32) -> Result<Vec<Case>, AllocError> {
-    let code: Vec<u16> = (0..ROWS)
-        .filter(|row| is_multiple(*row, generator, degree))
-        .collect(alloc)?;
-    (0..ROWS)
-        .map(|row| Case {
-            row,
-            nearest: nearest_of(&code, row),
-        })
-        .collect(alloc)
+/// The multiples of the generator of the degree, in the order of the rows.
+// no heap: the caller lends an array with room for the most code rows
+fn multiples_of(generator: u16, degree: u32, room: &mut [u16; MOST]) -> &[u16] {
+    let multiples = (0..ROWS).filter(|row| is_multiple(*row, generator, degree));
+    let mut count = 0;
+    for ((i, place), row) in room.iter_mut().enumerate().zip(multiples) {
+        *place = row;
+        count = i + 1;
+    }
+    &room[..count.min(MOST)]
 }
 
 fn nearest_of(code: &[u16], row: u16) -> u16 {
@@ -68,6 +69,41 @@ fn nearest_of(code: &[u16], row: u16) -> u16 {
         .copied()
         .min_by_key(|other| (*other ^ row).count_ones())
         .unwrap_or(0)
+}
+
+/// How often each came up. The counts go to 32,768, so they cannot wrap.
+#[derive(Clone, Copy, Default)]
+struct Totals {
+    /// The rows that are corrected, by their distances.
+    corrected: [u16; 4],
+    refused: u16,
+    disagreements: u16,
+}
+
+impl Totals {
+    /// One case more, for correctors of t errors that are right on it or not.
+    fn with(mut self, case: Case, t: u8, right: bool) -> Totals {
+        match self.corrected.get_mut(case.distance() as usize) {
+            Some(count) if case.distance() <= u32::from(t) => *count = count.wrapping_add(1),
+            _ => self.refused = self.refused.wrapping_add(1),
+        }
+        self.disagreements = self.disagreements.wrapping_add(u16::from(!right));
+        self
+    }
+}
+
+/// Both correctors on every row beside the nearest of the code rows.
+fn count_all<C: Corrector, D: Corrector>(step: &C, direct: &D, code: &[u16]) -> Totals {
+    (0..ROWS).fold(Totals::default(), |totals, row| {
+        let case = Case {
+            row,
+            nearest: nearest_of(code, row),
+        };
+        let right = agree(step, direct, &row.to_le_bytes()) == Agreement::Alike
+            && case.is_met_by(step)
+            && case.is_met_by(direct);
+        totals.with(case, step.corrects(), right)
+    })
 }
 
 fn main(rt: HostRuntime) -> io::Result<()> {
@@ -78,30 +114,12 @@ fn main(rt: HostRuntime) -> io::Result<()> {
     for (t, generator, degree) in [(1, 0x13, 4), (2, 0x1D1, 8), (3, 0x537, 10)] {
         let step = StepCorrector::new(ShiftField::new(4), t);
         let direct = DirectCorrector::new(TableField::new(4), t);
-        let all = cases(rt.alloc(), generator, degree)?;
-        let corrected = |errors: u32| {
-            all.iter()
-                .filter(|case| case.distance() == errors && errors <= u32::from(t))
-                .count()
-        };
-        let refused = all
-            .iter()
-            .filter(|case| case.distance() > u32::from(t))
-            .count();
-        let disagreements = all
-            .iter()
-            .filter(|case| {
-                agree(&step, &direct, &case.row.to_le_bytes()) != Agreement::Alike
-                    || !case.is_met_by(&step)
-                    || !case.is_met_by(&direct)
-            })
-            .count();
+        let mut room = [0; MOST];
+        let all = count_all(&step, &direct, multiples_of(generator, degree, &mut room));
+        let [clean, one, two, three] = all.corrected;
         println!(rt;
-            "t = {t}: clean {}, one {}, two {}, three {}, refused {refused}, disagreements {disagreements}",
-            corrected(0),
-            corrected(1),
-            corrected(2),
-            corrected(3)
+            "t = {t}: clean {clean}, one {one}, two {two}, three {three}, refused {}, disagreements {}",
+            all.refused, all.disagreements
         )?;
     }
     Ok(())

@@ -65,13 +65,14 @@ fn bytes(rt: &impl Print) -> io::Result<()> {
     Ok(())
 }
 
-/// How many of all entries come back from their value in arcseconds, and how many are refused.
+/// How many of all entries come back from their value in arcseconds, and how many are refused. The counts go to 65,536, so they cannot wrap.
 fn way_back(rt: &impl Print) -> io::Result<()> {
-    let same = (i16::MIN..=i16::MAX)
-        .filter(|entry| entry_of(arcseconds(*entry)) == Ok(*entry))
-        .count();
-    let refused = (i16::MIN..=i16::MAX)
-        .filter(|entry| entry_of(arcseconds(*entry)).is_err())
-        .count();
+    // One fold for both counts: each entry is worked out once.
+    let (same, refused) = (i16::MIN..=i16::MAX).fold((0u32, 0u32), |(same, refused), entry| {
+        match entry_of(arcseconds(entry)) {
+            Ok(back) => (same.wrapping_add(u32::from(back == entry)), refused),
+            Err(_) => (same, refused.wrapping_add(1)),
+        }
+    });
     println!(rt; "{same} entries come back, {refused} are refused")
 }

@@ -9,55 +9,64 @@ use field::{ShiftField, TableField};
 use history::{Answer, Call, make};
 use layers::{Interleaver, Inverter, Window};
 use memory::{BuiltInCells, ByteCells, Memory, WordCells};
-use std::alloc::{AllocError, Global};
-use std::io;
+use std::fmt::{Display, Formatter};
+use std::{array, fmt, io};
 use step_corrector::StepCorrector;
 
-/// The k bits of data that are written into a row.
-fn data_of(alloc: Global, row: u32, k: u8) -> Result<Vec<u8>, AllocError> {
+/// The k bits of data that are written into a row, in the first bytes.
+// no heap: an array with room for the data of any row
+fn data_of(row: u32, k: u8) -> [u8; 32] {
     let start = (row.wrapping_mul(11).wrapping_add(5) % 256) as u8;
-    let mut data: Vec<u8> = (0..k.div_ceil(8))
-        .map(|i| i.wrapping_mul(37).wrapping_add(start))
-        .collect(alloc)?;
+    let mut data = array::from_fn(|i| ((i % 256) as u8).wrapping_mul(37).wrapping_add(start));
     // The unused bits of the last byte are zero.
-    if let Some(last) = data.last_mut() {
+    if let Some(last) = data[..usize::from(k).div_ceil(8)].last_mut() {
         *last &= u8::MAX >> (k.wrapping_neg() % 8);
     }
-    Ok(data)
+    data
 }
 
-/// Makes a call and prints it with its answer.
+/// A call as it is printed.
 // By hand and no derived Debug: the stored text has each call as a line of its own form.
+#[derive(Clone, Copy)]
+struct Shown<'a>(Call<'a>);
+
+impl Display for Shown<'_> {
+    fn fmt<W: fmt::Write>(&self, f: &mut Formatter<W>) -> fmt::Result {
+        match self.0 {
+            Call::Write { row, .. } => write!(f, "write {row}"),
+            Call::Read { row } => write!(f, "read {row}"),
+            Call::Mend { row } => write!(f, "mend {row}"),
+            Call::Sweep => write!(f, "sweep"),
+            Call::Knock { from, length } => write!(f, "knock {from} {length}"),
+        }
+    }
+}
+
+/// Makes a call, then prints it with its answer.
 fn trace<C: Corrector, M: Memory>(
     rt: &impl Print,
     book: &mut Book<C, M>,
     call: Call<'_>,
 ) -> io::Result<()> {
-    match call {
-        Call::Write { row, .. } => print!(rt; "  write {row}: ")?,
-        Call::Read { row } => print!(rt; "  read {row}: ")?,
-        Call::Mend { row } => print!(rt; "  mend {row}: ")?,
-        Call::Sweep => print!(rt; "  sweep: ")?,
-        Call::Knock { from, length } => print!(rt; "  knock {from} {length}: ")?,
-    }
+    let shown = Shown(call);
     match make(book, call) {
-        Ok(Answer::Written | Answer::Knocked) => println!(rt; "ok"),
+        Ok(Answer::Written | Answer::Knocked) => println!(rt; "  {shown}: ok"),
         Ok(Answer::Read(count, data)) => println!(rt;
-            "{count}, data {:02X} {:02X}",
+            "  {shown}: {count}, data {:02X} {:02X}",
             data[0], data[1]
         ),
-        Ok(Answer::Mended(turned)) => println!(rt; "{turned}"),
+        Ok(Answer::Mended(turned)) => println!(rt; "  {shown}: {turned}"),
         Ok(Answer::Swept(counts)) => println!(rt;
-            "{} {} {}",
+            "  {shown}: {} {} {}",
             counts.accepted, counts.refused, counts.turned
         ),
-        Err(refusal) => println!(rt; "no {}", refusal.number()),
+        Err(refusal) => println!(rt; "  {shown}: no {}", refusal.number()),
     }
 }
 
 /// Makes the calls on a book whose layers spread a burst of `burst` places over its rows.
 fn run<C: Corrector + Drop, M: Memory + Drop>(
-    rt: &(impl Print + AllocGlobal),
+    rt: &impl Print,
     name: &str,
     mut book: Book<C, M>,
     burst: u32,
@@ -65,20 +74,21 @@ fn run<C: Corrector + Drop, M: Memory + Drop>(
     let k = book.data_cells();
     let rows = book.rows();
     let last = rows.saturating_sub(1);
-    let first_data = data_of(rt.alloc(), 0, k)?;
-    let last_data = data_of(rt.alloc(), last, k)?;
+    let size = usize::from(k).div_ceil(8);
+    let first_data = data_of(0, k);
+    let last_data = data_of(last, k);
     let calls = [
         Call::Write {
             row: 0,
-            bytes: &first_data,
+            bytes: &first_data[..size],
         },
         Call::Write {
             row: last,
-            bytes: &last_data,
+            bytes: &last_data[..size],
         },
         Call::Write {
             row: rows,
-            bytes: &last_data,
+            bytes: &last_data[..size],
         },
         // Light damage: single knocks and one burst.
         Call::Knock { from: 3, length: 1 },
@@ -107,7 +117,7 @@ fn run<C: Corrector + Drop, M: Memory + Drop>(
         Call::Sweep,
         Call::Write {
             row: 0,
-            bytes: &first_data,
+            bytes: &first_data[..size],
         },
         Call::Read { row: 0 },
     ];

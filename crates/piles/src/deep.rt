@@ -2,20 +2,22 @@
 use crate::trace::{BYTES, Step, WORDS, interleaver, inverter, lent, trace, window};
 use layers::{Interleaver, Inverter, Window, cell_eighteen, copy, fill};
 use memory::{BuiltInCells, ByteCells, WordCells};
+use std::io;
+use std::io::Write;
 
-pub(crate) fn over_built_in(rt: &impl Print) -> anyhow::Result<()> {
-    println!(rt; "over window 0 30 over built-in")?;
-    println!(rt; "  cell and place 18 {}", cell_eighteen()?)?;
+pub(crate) fn over_built_in(page: &mut impl Write) -> io::Result<()> {
+    writeln!(page, "over window 0 30 over built-in")?;
+    writeln!(page, "  cell and place 18 {}", cell_eighteen().unwrap())?;
     let steps = [Step::Put(18, true), Step::Knock(6, 4), Step::Knock(29, 2)];
-    interleaver(rt, Window::new(BuiltInCells::new(), 0, 30), 2, 15, &steps)
+    interleaver(page, Window::new(BuiltInCells::new(), 0, 30), 2, 15, &steps)
 }
 
-pub(crate) fn over_bytes(rt: &impl Print) -> anyhow::Result<()> {
-    println!(rt; "over interleaver 2 15 over window 1 30 over bytes")?;
+pub(crate) fn over_bytes(page: &mut impl Write) -> io::Result<()> {
+    writeln!(page, "over interleaver 2 15 over window 1 30 over bytes")?;
     let mut bytes = BYTES;
     let below = Interleaver::new(Window::new(ByteCells::new(&mut bytes), 1, 30), 2, 15);
     inverter(
-        rt,
+        page,
         below,
         &[
             Step::Put(29, false),
@@ -24,25 +26,25 @@ pub(crate) fn over_bytes(rt: &impl Print) -> anyhow::Result<()> {
             Step::Put(30, true),
         ],
     )?;
-    lent(rt, &bytes)?;
-    println!(rt; "over interleaver 2 3 over window 3 24 over bytes")?;
+    lent(page, &bytes)?;
+    writeln!(page, "over interleaver 2 3 over window 3 24 over bytes")?;
     let below = Interleaver::new(Window::new(ByteCells::new(&mut bytes), 3, 24), 2, 3);
     interleaver(
-        rt,
+        page,
         below,
         3,
         2,
         &[Step::Put(23, true), Step::Put(1, true), Step::Knock(4, 5)],
     )?;
-    lent(rt, &bytes)
+    lent(page, &bytes)
 }
 
-pub(crate) fn over_words(rt: &impl Print) -> anyhow::Result<()> {
-    println!(rt; "over inverter over interleaver 4 8 over words")?;
+pub(crate) fn over_words(page: &mut impl Write) -> io::Result<()> {
+    writeln!(page, "over inverter over interleaver 4 8 over words")?;
     let mut words = WORDS;
     let below = Inverter::new(Interleaver::new(WordCells::new(&mut words), 4, 8));
     window(
-        rt,
+        page,
         below,
         7,
         18,
@@ -52,31 +54,31 @@ pub(crate) fn over_words(rt: &impl Print) -> anyhow::Result<()> {
             Step::Knock(26, 10),
         ],
     )?;
-    lent(rt, &words)?;
-    println!(rt; "over window 28 12 over words")?;
+    lent(page, &words)?;
+    writeln!(page, "over window 28 12 over words")?;
     let below = Window::new(WordCells::new(&mut words), 28, 12);
     window(
-        rt,
+        page,
         below,
         4,
         6,
         &[Step::Put(0, true), Step::Put(6, true), Step::Knock(30, 4)],
     )?;
-    lent(rt, &words)
+    lent(page, &words)
 }
 
-pub(crate) fn transfers(rt: &impl Print) -> anyhow::Result<()> {
+pub(crate) fn transfers(page: &mut impl Write) -> io::Result<()> {
     let mut bytes = BYTES;
     let from = Inverter::new(ByteCells::new(&mut bytes));
     let mut to = Window::new(BuiltInCells::new(), 100, 40);
-    println!(rt; "copy over all of the source")?;
+    writeln!(page, "copy over all of the source")?;
     let _ = copy(&from, &mut to);
-    trace(rt, &mut to, &[Step::Knock(100, 3)])?;
-    println!(rt; "fill")?;
+    trace(page, &mut to, &[Step::Knock(100, 3)])?;
+    writeln!(page, "fill")?;
     fill(&mut to, true);
-    trace(rt, &mut to, &[Step::Put(1, false)])?;
-    println!(rt; "copy over all of the target")?;
+    trace(page, &mut to, &[Step::Put(1, false)])?;
+    writeln!(page, "copy over all of the target")?;
     let mut few = Interleaver::new(Window::new(to, 4, 12), 3, 4);
     let _ = copy(&from, &mut few);
-    trace(rt, &mut few, &[])
+    trace(page, &mut few, &[])
 }

@@ -1,9 +1,11 @@
 //! Figures that do not fit, the smallest and the largest memories.
 use crate::trace::{BYTES, Step, interleaver, lent, trace, window};
 use memory::{ByteCells, WordCells};
+use std::io;
+use std::io::Write;
 
 // Not one function with the next: the figures, the layer and the steps differ, so the loop would take all three and hold nothing.
-pub(crate) fn unfit_windows(rt: &impl Print) -> anyhow::Result<()> {
+pub(crate) fn unfit_windows(page: &mut impl Write) -> io::Result<()> {
     for (first, length) in [
         (0, 32),
         (0, 33),
@@ -16,18 +18,18 @@ pub(crate) fn unfit_windows(rt: &impl Print) -> anyhow::Result<()> {
     ] {
         let mut bytes = BYTES;
         window(
-            rt,
+            page,
             ByteCells::new(&mut bytes),
             first,
             length,
             &[Step::Put(0, true), Step::Knock(30, 2), Step::Knock(30, 3)],
         )?;
-        lent(rt, &bytes)?;
+        lent(page, &bytes)?;
     }
     Ok(())
 }
 
-pub(crate) fn unfit_interleavers(rt: &impl Print) -> anyhow::Result<()> {
+pub(crate) fn unfit_interleavers(page: &mut impl Write) -> io::Result<()> {
     for (depth, width) in [
         (16, 2),
         (32, 1),
@@ -42,48 +44,53 @@ pub(crate) fn unfit_interleavers(rt: &impl Print) -> anyhow::Result<()> {
     ] {
         let mut bytes = BYTES;
         interleaver(
-            rt,
+            page,
             ByteCells::new(&mut bytes),
             depth,
             width,
             &[Step::Put(31, true), Step::Knock(0, 2)],
         )?;
-        lent(rt, &bytes)?;
+        lent(page, &bytes)?;
     }
     Ok(())
 }
 
-pub(crate) fn no_cells(rt: &impl Print) -> anyhow::Result<()> {
+pub(crate) fn no_cells(page: &mut impl Write) -> io::Result<()> {
     let steps = [
         Step::Put(0, true),
         Step::Knock(0, 0),
         Step::Knock(0, 1),
         Step::Knock(1, 0),
     ];
-    println!(rt; "no bytes")?;
+    writeln!(page, "no bytes")?;
     let mut bytes: [u8; 0] = [];
-    trace(rt, &mut ByteCells::new(&mut bytes), &steps)?;
-    window(rt, ByteCells::new(&mut bytes), 0, 0, &steps)
+    trace(page, &mut ByteCells::new(&mut bytes), &steps)?;
+    window(page, ByteCells::new(&mut bytes), 0, 0, &steps)
 }
 
 /// A memory has at most 262144 cells: the slices are a little longer.
-pub(crate) fn most_cells(rt: &impl Print) -> anyhow::Result<()> {
-    let steps = [
-        Step::Put(262143, false),
-        Step::Put(262144, false),
-        Step::Knock(262136, 4),
-        Step::Knock(262136, 9),
-        Step::Knock(262144, 0),
-        Step::Knock(262145, 0),
-        Step::Knock(u32::MAX, 1),
-        Step::Knock(1, u32::MAX),
-    ];
-    println!(rt; "32770 bytes, the last five")?;
+const LAST_CELLS: [Step; 8] = [
+    Step::Put(262143, false),
+    Step::Put(262144, false),
+    Step::Knock(262136, 4),
+    Step::Knock(262136, 9),
+    Step::Knock(262144, 0),
+    Step::Knock(262145, 0),
+    Step::Knock(u32::MAX, 1),
+    Step::Knock(1, u32::MAX),
+];
+
+// Not one function with the next: both slices would lie on the stack at once.
+pub(crate) fn most_bytes(page: &mut impl Write) -> io::Result<()> {
+    writeln!(page, "32770 bytes, the last five")?;
     let mut bytes = [0xb5; 32770];
-    trace(rt, &mut ByteCells::new(&mut bytes), &steps)?;
-    lent(rt, &bytes[32765..])?;
-    println!(rt; "8194 words, the last four")?;
+    trace(page, &mut ByteCells::new(&mut bytes), &LAST_CELLS)?;
+    lent(page, &bytes[32765..])
+}
+
+pub(crate) fn most_words(page: &mut impl Write) -> io::Result<()> {
+    writeln!(page, "8194 words, the last four")?;
     let mut words = [0xb500_0001; 8194];
-    trace(rt, &mut WordCells::new(&mut words), &steps)?;
-    lent(rt, &words[8190..])
+    trace(page, &mut WordCells::new(&mut words), &LAST_CELLS)?;
+    lent(page, &words[8190..])
 }

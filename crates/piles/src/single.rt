@@ -3,8 +3,10 @@ use crate::trace::{BYTES, Step, WORDS, interleaver, inverter, lent, trace, windo
 use bits::Element;
 use memory::{BuiltInCells, ByteCells, LentCells, WordCells};
 use std::fmt::Display;
+use std::io;
+use std::io::Write;
 
-pub(crate) fn bottoms(rt: &impl Print) -> anyhow::Result<()> {
+pub(crate) fn bottoms(page: &mut impl Write) -> io::Result<()> {
     let steps = [
         Step::Put(3, true),
         Step::Put(0, false),
@@ -12,16 +14,16 @@ pub(crate) fn bottoms(rt: &impl Print) -> anyhow::Result<()> {
         Step::Put(4096, true),
         Step::Knock(0, 4097),
     ];
-    println!(rt; "bytes")?;
+    writeln!(page, "bytes")?;
     let mut bytes = BYTES;
-    trace(rt, &mut ByteCells::new(&mut bytes), &steps)?;
-    lent(rt, &bytes)?;
-    println!(rt; "words")?;
+    trace(page, &mut ByteCells::new(&mut bytes), &steps)?;
+    lent(page, &bytes)?;
+    writeln!(page, "words")?;
     let mut words = WORDS;
-    trace(rt, &mut WordCells::new(&mut words), &steps)?;
-    lent(rt, &words)?;
-    println!(rt; "built-in")?;
-    trace(rt, &mut BuiltInCells::new(), &steps)
+    trace(page, &mut WordCells::new(&mut words), &steps)?;
+    lent(page, &words)?;
+    writeln!(page, "built-in")?;
+    trace(page, &mut BuiltInCells::new(), &steps)
 }
 
 /// Figures of a layer and the steps that are made on it.
@@ -29,31 +31,31 @@ type Pile<'a> = (u32, u32, &'a [Step]);
 
 /// A window, an interleaver and an inverter over a lent slice, which is shown after each.
 fn over_lent<E: Element + Display + Drop>(
-    rt: &impl Print,
+    page: &mut impl Write,
     elements: &mut [E],
     (first, length, window_steps): Pile<'_>,
     (depth, width, interleaver_steps): Pile<'_>,
     inverter_steps: &[Step],
-) -> anyhow::Result<()> {
-    window(rt, LentCells::new(elements), first, length, window_steps)?;
-    lent(rt, elements)?;
+) -> io::Result<()> {
+    window(page, LentCells::new(elements), first, length, window_steps)?;
+    lent(page, elements)?;
     interleaver(
-        rt,
+        page,
         LentCells::new(elements),
         depth,
         width,
         interleaver_steps,
     )?;
-    lent(rt, elements)?;
-    inverter(rt, LentCells::new(elements), inverter_steps)?;
-    lent(rt, elements)
+    lent(page, elements)?;
+    inverter(page, LentCells::new(elements), inverter_steps)?;
+    lent(page, elements)
 }
 
-pub(crate) fn over_bytes(rt: &impl Print) -> anyhow::Result<()> {
-    println!(rt; "over bytes")?;
+pub(crate) fn over_bytes(page: &mut impl Write) -> io::Result<()> {
+    writeln!(page, "over bytes")?;
     let mut bytes = BYTES;
     over_lent(
-        rt,
+        page,
         &mut bytes,
         (
             5,
@@ -74,11 +76,11 @@ pub(crate) fn over_bytes(rt: &impl Print) -> anyhow::Result<()> {
     )
 }
 
-pub(crate) fn over_words(rt: &impl Print) -> anyhow::Result<()> {
-    println!(rt; "over words")?;
+pub(crate) fn over_words(page: &mut impl Write) -> io::Result<()> {
+    writeln!(page, "over words")?;
     let mut words = WORDS;
     over_lent(
-        rt,
+        page,
         &mut words,
         (
             30,
@@ -94,10 +96,10 @@ pub(crate) fn over_words(rt: &impl Print) -> anyhow::Result<()> {
     )
 }
 
-pub(crate) fn over_built_in(rt: &impl Print) -> anyhow::Result<()> {
-    println!(rt; "over built-in")?;
+pub(crate) fn over_built_in(page: &mut impl Write) -> io::Result<()> {
+    writeln!(page, "over built-in")?;
     window(
-        rt,
+        page,
         BuiltInCells::new(),
         4090,
         6,
@@ -108,7 +110,7 @@ pub(crate) fn over_built_in(rt: &impl Print) -> anyhow::Result<()> {
         ],
     )?;
     interleaver(
-        rt,
+        page,
         BuiltInCells::new(),
         16,
         64,
@@ -119,7 +121,7 @@ pub(crate) fn over_built_in(rt: &impl Print) -> anyhow::Result<()> {
         ],
     )?;
     inverter(
-        rt,
+        page,
         BuiltInCells::new(),
         &[
             Step::Put(2, false),

@@ -3,6 +3,8 @@ use layers::{Interleaver, Inverter, Window};
 use memory::Memory;
 use refusal::Refusal;
 use std::fmt::Display;
+use std::io;
+use std::io::Write;
 
 /// A call that changes cells.
 #[derive(Clone, Copy)]
@@ -22,87 +24,84 @@ const SHOWN: u32 = 40;
 
 // Not one function over any selection: what is shown here and below is `check` and `new` of each layer.
 pub(crate) fn window<M: Memory + Drop>(
-    rt: &impl Print,
+    page: &mut impl Write,
     below: M,
     first: u32,
     length: u32,
     steps: &[Step],
-) -> anyhow::Result<()> {
-    print!(rt; "window {first} {length}")?;
-    answer(rt, Window::check(&below, first, length))?;
-    trace(rt, &mut Window::new(below, first, length), steps)
+) -> io::Result<()> {
+    write!(page, "window {first} {length}")?;
+    answer(page, Window::check(&below, first, length))?;
+    trace(page, &mut Window::new(below, first, length), steps)
 }
 
 pub(crate) fn interleaver<M: Memory + Drop>(
-    rt: &impl Print,
+    page: &mut impl Write,
     below: M,
     depth: u32,
     width: u32,
     steps: &[Step],
-) -> anyhow::Result<()> {
-    print!(rt; "interleaver {depth} {width}")?;
-    answer(rt, Interleaver::check(&below, depth, width))?;
-    trace(rt, &mut Interleaver::new(below, depth, width), steps)
+) -> io::Result<()> {
+    write!(page, "interleaver {depth} {width}")?;
+    answer(page, Interleaver::check(&below, depth, width))?;
+    trace(page, &mut Interleaver::new(below, depth, width), steps)
 }
 
 pub(crate) fn inverter<M: Memory + Drop>(
-    rt: &impl Print,
+    page: &mut impl Write,
     below: M,
     steps: &[Step],
-) -> anyhow::Result<()> {
-    println!(rt; "inverter")?;
-    trace(rt, &mut Inverter::new(below), steps)
+) -> io::Result<()> {
+    writeln!(page, "inverter")?;
+    trace(page, &mut Inverter::new(below), steps)
 }
 
 /// The number of cells, the span, the places and the cells; then each step with its answer and the cells.
-pub(crate) fn trace<M: Memory>(rt: &impl Print, m: &mut M, steps: &[Step]) -> anyhow::Result<()> {
-    println!(rt; "  cells and span {} {}", m.cells(), m.span())?;
-    print!(rt; "  at")?;
+pub(crate) fn trace<M: Memory>(page: &mut impl Write, m: &mut M, steps: &[Step]) -> io::Result<()> {
+    writeln!(page, "  cells and span {} {}", m.cells(), m.span())?;
+    write!(page, "  at")?;
     for k in 0..m.cells().min(SHOWN) {
-        print!(rt; " {}", m.place(k)?)?;
+        write!(page, " {}", m.place(k).unwrap())?;
     }
-    println!(rt; "")?;
-    cells(rt, m)?;
+    writeln!(page)?;
+    cells(page, m)?;
     for step in steps {
         // A match on values and no closures: a step is printed before it is made.
         match *step {
             Step::Put(i, v) => {
-                print!(rt; "  put {i} {}", u8::from(v))?;
-                answer(rt, m.put(i, v))?;
+                write!(page, "  put {i} {}", u8::from(v))?;
+                answer(page, m.put(i, v))?;
             }
             Step::Knock(from, length) => {
-                print!(rt; "  knock {from} {length}")?;
-                answer(rt, m.knock(from, length))?;
+                write!(page, "  knock {from} {length}")?;
+                answer(page, m.knock(from, length))?;
             }
         }
-        cells(rt, m)?;
+        cells(page, m)?;
     }
     Ok(())
 }
 
-fn answer(rt: &impl Print, r: Result<(), Refusal>) -> anyhow::Result<()> {
+fn answer(page: &mut impl Write, r: Result<(), Refusal>) -> io::Result<()> {
     match r {
-        Ok(()) => println!(rt; ": ok")?,
-        Err(refusal) => println!(rt; ": no {}", refusal.number())?,
+        Ok(()) => writeln!(page, ": ok"),
+        Err(refusal) => writeln!(page, ": no {}", refusal.number()),
     }
-    Ok(())
 }
 
-fn cells<M: Memory>(rt: &impl Print, m: &M) -> anyhow::Result<()> {
-    print!(rt; "  ")?;
+fn cells<M: Memory>(page: &mut impl Write, m: &M) -> io::Result<()> {
+    write!(page, "  ")?;
     for k in 0..m.cells().min(SHOWN) {
-        print!(rt; "{}", u8::from(m.get(k)?))?;
+        write!(page, "{}", u8::from(m.get(k).unwrap()))?;
     }
-    println!(rt; "")?;
-    Ok(())
+    writeln!(page)
 }
 
 /// The elements of a slice that was lent, on a line.
-pub(crate) fn lent<E: Display + Drop>(rt: &impl Print, elements: &[E]) -> anyhow::Result<()> {
-    print!(rt; " ")?;
+pub(crate) fn lent<E: Display + Drop>(page: &mut impl Write, elements: &[E]) -> io::Result<()> {
+    write!(page, " ")?;
     for element in elements {
-        print!(rt; " {element}")?;
+        write!(page, " {element}")?;
     }
-    println!(rt; "")?;
-    Ok(())
+    writeln!(page)
 }
