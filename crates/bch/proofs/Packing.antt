@@ -23,7 +23,7 @@ push_bits f count i x hb h (suc j) lt =
     let z : (i + 1) + j ≡ i + suc j = omega arith in
     push_more x (f i) j hb ∙ h j (omega arith) ∙ ap (λ k. eqb (f k) 1) z
 
-push_lt : (count i x b : ℕ) → i < count → b < 2 → x < 2 ^ (count - (i + 1)) → 2 * x + b < 2 ^ (count - i)
+pub push_lt : (count i x b : ℕ) → i < count → b < 2 → x < 2 ^ (count - (i + 1)) → 2 * x + b < 2 ^ (count - i)
 push_lt count i x b lt hb hx =
     let z : suc (count - (i + 1)) ≡ count - i = omega arith in
     let w : 2 * x + b < 2 ^ suc (count - (i + 1)) = omega arith in

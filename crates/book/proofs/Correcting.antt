@@ -32,10 +32,10 @@ module _ (b : BookModel) (laws : FieldLaws b.field) (a n : ℕ) (size : n ≡ ro
       inr (m.1, inr (m.0, inl (λ v. far v.0 v.1, refl)))
 
 -- a row laid down from a buffer shows what the buffer shows
-laid_row : (a n : ℕ) (cells : List ℕ) (m m' : Mem) → Laid a n (bit_at 8 cells) m m' → Laid a n (cell_of (shown n cells)) m m'
+pub laid_row : (a n : ℕ) (cells : List ℕ) (m m' : Mem) → Laid a n (bit_at 8 cells) m m' → Laid a n (cell_of (shown n cells)) m m'
 laid_row a n cells m m' p = record { layout = p.layout; here = λ j h. p.here j h ∙ sym (cell-shown n cells j h); there = p.there; beneath = p.beneath }
 
-as_was : (m : Mem) → Unchanged m m
+pub as_was : (m : Mem) → Unchanged m m
 as_was m = ((refl, λ k h. refl), λ x h. refl)
 
 -- a row that begins at cell a

@@ -3,6 +3,7 @@ use Rattle.std.proofs.Common.{◌≡◌, ℕ, ◌+◌, ◌*◌, ◌<◌, ◌≤�
 use Rattle.std.proofs.lemmas.Bool.Decides.{nat_tests}
 use Rattle.galois.specs.Model.{FieldLaws}
 use Rattle.galois.specs.Rows.{Few}
+use Rattle.bch.proofs.Counts.{units_lt}
 use Rattle.tally.specs.Damage.{Lawful}
 use Rattle.tally.proofs.Fields.{field_codes}
 use Rattle.book.specs.Model.{BookModel, figures_test, setting, rows_of, reach_of, row_size}
@@ -11,6 +12,9 @@ module _ (n t s R N : ℕ) where
   reach_test : cond (figures_test n t s R N) s 0 ≤ t
   reach_test = grind (arith, nat_tests)
 
+  few_test : cond (figures_test n t s R N) R 0 ≤ 1024
+  few_test = grind (arith, nat_tests)
+
   room_go : (h : Bool) → figures_test n t s R N ≡ h → cond h R 0 * n ≤ N
   room_go true e = grind (arith, nat_tests)
   room_go false e = omega (arith, zero-mul n)
@@ -18,6 +22,9 @@ module _ (n t s R N : ℕ) where
 module _ (b : BookModel) where
   pub reach_within : reach_of b ≤ b.strength
   reach_within = reach_test (row_size b) b.strength b.reach b.rows b.memory.layout.cells
+
+  pub rows_few : rows_of b ≤ 1024
+  rows_few = few_test (row_size b) b.strength b.reach b.rows b.memory.layout.cells
 
   pub rows_room : rows_of b * row_size b ≤ b.memory.layout.cells
   rows_room = room_go (row_size b) b.strength b.reach b.rows b.memory.layout.cells _ refl
@@ -29,6 +36,12 @@ module _ (b : BookModel) where
 
     pub row_room : r * row_size b + row_size b ≤ b.memory.layout.cells
     row_room = omega (arith, row_ends, rows_room)
+
+    pub row_first : FieldLaws b.field → r * row_size b < 262144
+    row_first laws =
+        let small = units_lt b.field laws in
+        let few : r * row_size b ≤ 1024 * row_size b = mul-le-mul_right (row_size b) (let le : r ≤ 1024 = omega (arith, rows_few) in le) in
+        omega arith
 
   -- the tally's laws hold of every book
   pub book_lawful : FieldLaws b.field → Few b.strength → Lawful (setting b)

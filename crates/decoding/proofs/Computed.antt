@@ -50,6 +50,9 @@ module _ (F : FieldModel) (l : FieldLaws F) where
     second : d2 ≡ V.0
     second = sum_is F l u s3 d2 U B cube refl e2
 
+    pub second_lt : d2 < size F
+    second_lt = below F l d2 V second
+
     pub second_is : d2 ≡ D2 (numbers F) s1 s3
     second_is = second ∙ number F l (solve (ring2 F l) (A ∷ B ∷ []) (var 0 ⊗ var 0 ⊗ var 0 ⊕ var 1) (pow_e (var 0) 3 ⊕ var 1) tt)
 

@@ -60,6 +60,10 @@ module _ (F : FieldModel) (l : FieldLaws F) (t : ℕ) (few : Few t) where
       room = λ h. let z = K.room told in omega arith;
     }
 
+    -- a class that falls by one has room for the turn
+    pub steps_room : suc k' ≡ k → k ≤ 3 → count + 1 ≤ t
+    steps_room fall told = let z = K.room told in omega arith
+
     pub steps_leave : (suc k' ≡ k → k ≤ 3 → ⊥) → Steps F t c x (p + 1) count k
     steps_leave stays = record { track = track-leave F t c x p count K.track agrees; class = K.class; room = K.room }
       where

@@ -2,12 +2,12 @@
 -- Rows are functions of the position: c is the row that the search began with, x the row as it stands.
 use Rattle.std.proofs.Common.{◌≡◌, ℕ, suc, ◌+◌, ◌<◌, ◌≤◌, Bool, ◌≢◌, List, sym, refl, ◌∙◌, subst, inl, inr, arith}
 use Rattle.std.proofs.lemmas.Bool.{cases_eq, cases_lt}
-use Rattle.galois.specs.Model.{FieldModel, units}
+use Rattle.galois.specs.Model.{FieldModel, FieldLaws, units}
 use Rattle.galois.specs.Lists.{tabulate}
 use Rattle.galois.specs.Rows.{cell_of, distance, Near}
 use Rattle.galois.proofs.PowerSums.{power_sum-cong}
-use Rattle.galois.proofs.Distances.{apart, apart-self, apart-sym, apart-cong, apart-between, Turns, other_is_not, turn_farther}
-use Rattle.galois.proofs.Least.{Code}
+use Rattle.galois.proofs.Distances.{apart, apart-self, apart-sym, apart-cong, apart-zero, apart-between, apart-triangle, Turns, other_is_not, turn_farther}
+use Rattle.galois.proofs.Least.{Code, code_apart}
 use Rattle.decoding.proofs.Within.{Within, distance-tabulate, near_tabulate, tabulate-near}
 
 -- x is c from position p on, and every code row near c below p; it is count positions away from c
@@ -97,3 +97,11 @@ module _ (F : FieldModel) (t : ℕ) where
 
   pub none_near : (c : ℕ → Bool) → NoneWithin F t c → (d : List Bool) → Near F t (tabulate c (units F)) d → ⊥
   none_near c none d N = none (cell_of d) (tabulate-near F t c d N)
+
+-- there is no other to be found
+pub found_only : (F : FieldModel) → FieldLaws F → (t : ℕ) (c x d : ℕ → Bool) (count : ℕ) → Found F t c x count → Within F t c d
+    → (j : ℕ) → j < units F → x j ≡ d j
+found_only F l t c x d count R W =
+    apart-zero x d (units F)
+    (code_apart F l t x d R.within.code W.code
+    (let a = R.within.close in let b = W.close in let w = apart-triangle c x d (units F) in omega arith))

@@ -1,11 +1,14 @@
 -- What turning one bit of a buffer does to the row that it shows.
-use Rattle.std.proofs.Common.{◌≡◌, ℕ, ◌*◌, ◌/◌, ◌%◌, ◌^◌, ◌<◌, cond, not, List, length, get_or, set, refl, ap, ◌∙◌, arith}
+use Rattle.std.proofs.Common.{◌≡◌, ℕ, ◌*◌, ◌/◌, ◌%◌, ◌^◌, ◌<◌, cond, not, List, length, get_or, set, refl, ap, ◌∙◌, arith, length-set}
 use lib.Bits.{bit_xor, xor_zero_r, xor_assoc, xor_self}
 use Rattle.std.proofs.lemmas.List.{get_or-set_same, set-set, set-get_or}
 use Rattle.std.proofs.lemmas.Bool.{eq-eqb, ne_eqb}
 use Rattle.bits.specs.Bits.{bit_at, turned_at}
 use Rattle.bits.proofs.Turning.{bit_at-turned_at}
 use Rattle.galois.proofs.Distances.{Turns}
+
+pub turned-length : (buffer : List ℕ) (k : ℕ) → length (turned_at 8 buffer k) ≡ length buffer
+turned-length buffer k = simp length-set
 
 pub turned-turns : (buffer : List ℕ) (k : ℕ) → k < 8 * length buffer → Turns (bit_at 8 buffer) (bit_at 8 (turned_at 8 buffer k)) k
 turned-turns buffer k lt = record {

@@ -2,3 +2,4 @@ mod Law
 mod Scaled
 mod Exact
 mod Sums
+mod Stored

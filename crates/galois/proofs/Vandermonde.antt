@@ -6,6 +6,10 @@ use Rattle.galois.specs.Lists.{All, Distinct}
 use Rattle.galois.proofs.Solve.{var, O, I, ◌⊕◌, ◌⊗◌, solve, mul_zero, one_mul, equal_of_sum}
 
 module _ {A : Type 0} where
+  pub all_map : {P Q : A → Type 0} → ((a : A) → P a → Q a) → (l : List A) → All P l → All Q l
+  all_map f [] h = tt
+  all_map f (a ∷ l) h = (f a h.0, all_map f l h.1)
+
   pub all_map2 : {P Q U : A → Type 0} → ((a : A) → P a → Q a → U a) → (l : List A) → All P l → All Q l → All U l
   all_map2 f [] h k = tt
   all_map2 f (a ∷ l) h k = (f a h.0 k.0, all_map2 f l h.1 k.1)

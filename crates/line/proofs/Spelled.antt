@@ -1,5 +1,5 @@
 -- What a line spells: nothing but what its letter says, at most one command, never more than 32 bytes, and each command by some line.
-use Rattle.std.proofs.Common.{◌≡◌, ℕ, ◌+◌, ◌-◌, ◌*◌, ◌/◌, ◌%◌, ◌<◌, ◌≤◌, cond, eqb, leb, List, ◌∷◌, ◌++◌, length, get_or, drop, Ok, Err, decimal, Result, sym, refl, ap, ◌∙◌, arith}
+use Rattle.std.proofs.Common.{◌≡◌, ℕ, ◌+◌, ◌-◌, ◌*◌, ◌/◌, ◌%◌, ◌<◌, ◌≤◌, cond, eqb, leb, List, [], ◌∷◌, ◌++◌, length, get_or, drop, Ok, Err, decimal, Result, sym, refl, ap, ◌∙◌, subst, arith}
 use Rattle.std.proofs.lemmas.List.{length-append}
 use Rattle.refusal.specs.declared.Refusal.{Refusal}
 use Rattle.refusal.specs.declared.Refusal.TheVariants.{Line}
@@ -12,12 +12,12 @@ use Rattle.line.proofs.Numerals.{no_space, printed}
 
 -- ---- a line spells nothing unless its fields are those of its letter
 
-pub none_after : (s : List ℕ) → (get_or s 0 0 ≡ 87 → (t u : List ℕ) (row byte : ℕ) → Numeral t row → HexNumeral u byte → drop 2 s ≡ t ++ (32 ∷ u) → ⊥) → (get_or s 0 0 ≡ 82 → ⊥) → (get_or s 0 0 ≡ 75 → (t u : List ℕ) (from len : ℕ) → Numeral t from → Numeral u len → drop 2 s ≡ t ++ (32 ∷ u) → ⊥) → (get_or s 0 0 ≡ 77 → ⊥) → (get_or s 0 0 ≡ 83 → ⊥) → (c : Command) → Spells s c → ⊥
+pub none_after : (s : List ℕ) → (get_or s 0 0 ≡ 87 → (t u : List ℕ) (row byte : ℕ) → Numeral t row → HexNumeral u byte → drop 2 s ≡ t ++ (32 ∷ u) → ⊥) → (get_or s 0 0 ≡ 82 → (row : ℕ) → Numeral (drop 2 s) row → ⊥) → (get_or s 0 0 ≡ 75 → (t u : List ℕ) (from len : ℕ) → Numeral t from → Numeral u len → drop 2 s ≡ t ++ (32 ∷ u) → ⊥) → (get_or s 0 0 ≡ 77 → (row : ℕ) → Numeral (drop 2 s) row → ⊥) → (s ≡ 83 ∷ [] → ⊥) → (c : Command) → Spells s c → ⊥
 none_after s w r n m o (Write row byte) h = w (ap (λ (l : List ℕ). get_or l 0 0) h.4) h.0 h.1 row byte h.2 h.3 (ap (drop 2) h.4)
-none_after s w r n m o (Read row) h = r (ap (λ (l : List ℕ). get_or l 0 0) h.2)
+none_after s w r n m o (Read row) h = r (ap (λ (l : List ℕ). get_or l 0 0) h.2) row (subst (λ (x : List ℕ). Numeral x row) (sym (ap (drop 2) h.2)) h.1)
 none_after s w r n m o (Knock from len) h = n (ap (λ (l : List ℕ). get_or l 0 0) h.4) h.0 h.1 from len h.2 h.3 (ap (drop 2) h.4)
-none_after s w r n m o (Mend row) h = m (ap (λ (l : List ℕ). get_or l 0 0) h.2)
-none_after s w r n m o Sweep h = o (ap (λ (l : List ℕ). get_or l 0 0) h)
+none_after s w r n m o (Mend row) h = m (ap (λ (l : List ℕ). get_or l 0 0) h.2) row (subst (λ (x : List ℕ). Numeral x row) (sym (ap (drop 2) h.2)) h.1)
+none_after s w r n m o Sweep h = o h
 
 -- ---- no line spells two commands: the one that it spells is read off its letter and its fields
 

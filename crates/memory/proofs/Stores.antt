@@ -14,24 +14,24 @@ pub length-numbers : {A : Type 0} (number : A → ℕ) (numbers : List A → Lis
     → (xs : List A) → length (numbers xs) ≡ length xs
 length-numbers number numbers each xs = rw (each, length-map)
 
-module _ (w lent : ℕ) (xs ys : List ℕ) (wide : 0 < w) (whole : w * (64 / w) ≡ 64) (len : length ys ≡ length xs) where
-  -- the first 262144 cells fill whole numbers
-  whole_most : w * (most / w) ≡ most
-  whole_most =
-      let e : most ≡ w * (64 / w * 4096) = omega (arith, whole, mul_assoc w (64 / w) 4096) in
-      rw (e, mul-div_cancel_left (64 / w * 4096) wide)
+-- where 64 bits fill whole numbers, the first 262144 cells do
+pub whole_most : (w : ℕ) → 0 < w → w * (64 / w) ≡ 64 → w * (most / w) ≡ most
+whole_most w wide whole =
+    let e : most ≡ w * (64 / w * 4096) = omega (arith, whole, mul_assoc w (64 / w) 4096) in
+    rw (e, mul-div_cancel_left (64 / w * 4096) wide)
 
+module _ (w lent : ℕ) (xs ys : List ℕ) (whole : w * (most / w) ≡ most) (len : length ys ≡ length xs) where
   kept : drop (most / w) ys ≡ drop (most / w) xs → (packed_cells w lent ys).layout ≡ (packed_cells w lent xs).layout
   kept past = rw (len, past)
 
   pub lent_put : {U : Type 0} (i : ℕ) (v : Bool) (r : Result U Refusal) → i < min (w * length xs) most → Changed w (λ _. v) xs ys i r
       → Put (packed_cells w lent xs) (packed_cells w lent ys) i v r
-  lent_put i v (Ok u) h p = (h, (kept (p.2 (most / w) (omega (arith, whole_most))), λ k lt. p.1 k), λ k lt ne. p.1 k ∙ cond-false _ _ _ (ne_eqb k i ne))
+  lent_put i v (Ok u) h p = (h, (kept (p.2 (most / w) (omega arith)), λ k lt. p.1 k), λ k lt ne. p.1 k ∙ cond-false _ _ _ (ne_eqb k i ne))
   lent_put i v (Err e) h p = absurd (omega arith)
 
   pub lent_knocked : {U : Type 0} (a n : ℕ) (r : Result U Refusal) → RunTurned w (min (w * length xs) most) xs ys a n r
       → Knocked (packed_cells w lent xs) (packed_cells w lent ys) a n r
-  lent_knocked a n (Ok u) p = (p.0, (kept (p.1.rest (most / w) (omega (arith, whole_most))), λ k lt. p.1.bits k), λ k lt. p.1.bits k)
+  lent_knocked a n (Ok u) p = (p.0, (kept (p.1.rest (most / w) (omega arith)), λ k lt. p.1.bits k), λ k lt. p.1.bits k)
   lent_knocked a n (Err e) p = (p.0, p.1, rw p.2 ((refl, λ k lt. refl), λ b lt. refl))
 
 -- A reference b that a slice was lent by has become b'; the owner calls the slice by another name, own.

@@ -37,5 +37,8 @@ plain-sound n lent past b h = record { small = h; room = omega arith; within = �
 pub packed_sound : (w lent : ℕ) (xs : List ℕ) → Sound (packed_cells w lent xs).layout
 packed_sound w lent xs = plain-sound (min (w * length xs) most) lent (drop (most / w) xs) (bit_at w xs) (omega arith)
 
+pub lent_sound : (w : ℕ) (s : MutBor (List ℕ)) → Sound (lent_cells w s).layout
+lent_sound w s = packed_sound w s.ghost_name s.now
+
 pub own_sound : (xs : List ℕ) → Sound (own_cells xs).layout
 own_sound xs = plain-sound 4096 0 [] (bit_at 8 xs) (lit≤ tt)
