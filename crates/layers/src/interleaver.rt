@@ -29,6 +29,7 @@ impl Selection for Columns {
 
     ghost picks = { λ s n. interleaver_picks s.depth s.width n };
 
+    #[inline(always)]
     fn fits(&self, n: u32) -> bool {
         (1..=16).contains(&self.depth)
             && (1..=255).contains(&self.width)
@@ -36,11 +37,13 @@ impl Selection for Columns {
             && n.is_multiple_of(self.depth * self.width)
     }
 
+    #[inline(always)]
     fn shown(&self, n: u32) -> u32 {
         if self.fits(n) { n } else { 0 }
     }
 
     #[tactic(auto, using(crate::specs::Crossing::column_fits))]
+    #[inline(always)]
     fn cell(&self, n: u32, k: u32) -> Option<u32> {
         if k >= self.shown(n) {
             return None;

@@ -56,6 +56,7 @@ impl<M: Memory, S: Selection> Selected<M, S> {
     }
 
     /// The cell below that cell `i` is.
+    #[inline(always)]
     fn cell_below(&self, i: u32) -> Result<u32, Refusal>
         ensures { Shown (S.size self.now.figures) (S.index self.now.figures) (M.Memory.means self.now.below).layout.cells i result }
     {
@@ -65,11 +66,13 @@ impl<M: Memory, S: Selection> Selected<M, S> {
     }
 }
 
+// The calls on single cells are made for each cell of a row: without the hints no caller has them inline, and reads take up to a half more.
 impl<M: Memory, S: Selection> Memory for Selected<M, S> {
     ghost means = { λ s. layered (S.size s.figures) (S.index s.figures) (M.Memory.means s.below) };
 
     ghost sound = { λ s. layered-sound (S.size s.figures) (S.index s.figures) (M.Memory.means s.below) (S.picks s.figures (M.Memory.means s.below).layout.cells) (M.Memory.sound s.below) };
 
+    #[inline(always)]
     fn cells(&self) -> u32 {
         self.figures.shown(self.below.cells())
     }
@@ -78,16 +81,19 @@ impl<M: Memory, S: Selection> Memory for Selected<M, S> {
         self.below.span()
     }
 
+    #[inline(always)]
     fn get(&self, i: u32) -> Result<bool, Refusal> {
         let k = self.cell_below(i)?;
         self.below.get(k)
     }
 
+    #[inline(always)]
     fn place(&self, i: u32) -> Result<u32, Refusal> {
         let k = self.cell_below(i)?;
         self.below.place(k)
     }
 
+    #[inline(always)]
     fn put(&mut self, i: u32, v: bool) -> Result<(), Refusal> {
         let k = self.cell_below(i)?;
         self.below.put(k, v)

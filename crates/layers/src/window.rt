@@ -28,14 +28,17 @@ impl Selection for Stretch {
     ghost picks = { λ s n. window_picks s.first s.length n };
 
     // The test of a run stands where its numbers are: this one refuses figures with 2, `memory` a knock with 9, `rows` a row with 9 after 7.
+    #[inline(always)]
     fn fits(&self, n: u32) -> bool {
         self.length >= 1 && self.first <= n && self.length <= n - self.first
     }
 
+    #[inline(always)]
     fn shown(&self, n: u32) -> u32 {
         if self.fits(n) { self.length } else { 0 }
     }
 
+    #[inline(always)]
     fn cell(&self, n: u32, k: u32) -> Option<u32> {
         (k < self.shown(n)).then(|| self.first + k)
     }

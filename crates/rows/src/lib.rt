@@ -19,8 +19,8 @@ pub fn gather<M: Memory>(memory: &M, first: u32, n: u8, row: &mut [u8]) -> Resul
     check_run(memory, first, n, row)?;
     bits::clear(row);
     for j in 0..n {
-        let cell = memory.get(first + u32::from(j))?;
-        bits::put_bit(row, usize::from(j), cell)?;
+        let cell = memory.get(first + u32::from(j)).unwrap();
+        bits::put_bit(row, usize::from(j), cell).unwrap();
     }
     Ok(())
 }
@@ -32,8 +32,8 @@ pub fn scatter<M: Memory>(memory: &mut M, first: u32, n: u8, row: &[u8]) -> Resu
 {
     check_run(memory, first, n, row)?;
     for j in 0..n {
-        let cell = bits::bit(row, usize::from(j))?;
-        memory.put(first + u32::from(j), cell)?;
+        let cell = bits::bit(row, usize::from(j)).unwrap();
+        memory.put(first + u32::from(j), cell).unwrap();
     }
     Ok(())
 }
@@ -46,7 +46,7 @@ pub fn zero<M: Memory>(memory: &mut M, n: u32) -> Result<(), Refusal>
         return Err(Refusal::Cell);
     }
     for i in 0..n {
-        memory.put(i, false)?;
+        memory.put(i, false).unwrap();
     }
     Ok(())
 }
