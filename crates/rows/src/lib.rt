@@ -18,6 +18,7 @@ pub fn gather<M: Memory>(memory: &M, first: u32, n: u8, row: &mut [u8]) -> Resul
 {
     check_run(memory, first, n, row)?;
     bits::clear(row);
+    // Unwrapped, here and below, and not handed on: no cell of a run that fits is refused, and a test for each cell would cost time.
     for j in 0..n {
         let cell = memory.get(first + u32::from(j)).unwrap();
         bits::put_bit(row, usize::from(j), cell).unwrap();
